@@ -1,0 +1,10 @@
+pub mod Answers
+pub mod Bytes
+pub mod Kept
+pub mod Model
+pub mod Forms
+pub mod Tallies
+pub mod Blocks
+pub mod Arrange
+pub mod Lists
+pub mod BankMaps

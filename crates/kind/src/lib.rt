@@ -1,0 +1,92 @@
+pub mod arrangement;
+pub mod bank_map;
+pub mod block;
+pub mod forms;
+pub mod tally;
+
+ghost use mathlib.Core.Path.{_≡_};
+ghost use mathlib.Core.Bool.{cond};
+ghost use mathlib.Core.List.{_++_};
+ghost use lib.ListN.{length, getD, set, drop};
+ghost use lib.Dec.{leb};
+ghost use Prim.Native.Nat.{ℕ, _<_, _≤_};
+ghost use Rattle.kind.specs.Model.{Model, Laws};
+ghost use Rattle.kind.specs.Forms.{Reads-back, Reads-no-other};
+ghost use Rattle.std.specs.Results.{mapped};
+
+// Why bytes are no change of a kind.
+#[derive(Clone, Copy)]
+pub enum KindFault {
+    NotAChange,
+}
+
+// A kind of cell. Its states and changes lie in memory as plain values; `model` says what each is taken for.
+pub trait Kind {
+    type State: Copy;
+
+    type Change: Copy;
+
+    ghost model: { Model Self·State Self·Change };
+
+    ghost laws: { Laws model };
+
+    const LETTER: char;
+
+    // LETTER, with a contract: no clause can name the constant.
+    fn file_letter() -> char
+        ensures { λ r. ⌜ r ≡ model .letter ⌝ };
+
+    fn width() -> usize
+        ensures { λ r. ⌜ r ≡ model .width ⌝ };
+
+    fn origin() -> Self::State
+        ensures { λ r. ⌜ r ≡ model .plain-state (model .origin) ⌝ };
+
+    fn unit() -> Self::Change
+        ensures { λ r. ⌜ r ≡ model .plain-change (model .unit) ⌝ };
+
+    fn then(f: &Self::Change, g: &Self::Change) -> Self::Change
+        ensures { λ r. ⌜ r ≡ model .plain-change (model .then (model .change (now (f .entry))) (model .change (now (g .entry)))) ⌝ };
+
+    fn inverse(f: &Self::Change) -> Self::Change
+        ensures { λ r. ⌜ r ≡ model .plain-change (model .inverse (model .change (now (f .entry)))) ⌝ };
+
+    fn act(f: &Self::Change, s: &Self::State) -> Self::State
+        ensures { λ r. ⌜ r ≡ model .plain-state (model .act (model .change (now (f .entry))) (model .state (now (s .entry)))) ⌝ };
+
+    fn difference(s: &Self::State, t: &Self::State) -> Self::Change
+        ensures { λ r. ⌜ r ≡ model .plain-change (model .diff (model .state (now (s .entry))) (model .state (now (t .entry)))) ⌝ };
+
+    fn same_state(s: &Self::State, t: &Self::State) -> bool
+        ensures { λ r. ⌜ r ≡ model .same-state (model .state (now (s .entry))) (model .state (now (t .entry))) ⌝ };
+
+    fn same_change(f: &Self::Change, g: &Self::Change) -> bool
+        ensures { λ r. ⌜ r ≡ model .same-change (model .change (now (f .entry))) (model .change (now (g .entry))) ⌝ };
+
+    // Writes the form to the front of `out`; `out` stays as it is where it is too short.
+    fn write_state(s: &Self::State, out: &mut [u8]) -> bool
+        ensures { λ r. ⌜ r ≡ leb (model .width) (length (now (out .entry))) ⌝ ∗ ⌜ now (out .exit) ≡ cond r (model .state-form (model .state (now (s .entry))) ++ drop (model .width) (now (out .entry))) (now (out .entry)) ⌝ };
+
+    // Writes the form to the front of `out`; `out` stays as it is where it is too short.
+    fn write_change(f: &Self::Change, out: &mut [u8]) -> bool
+        ensures { λ r. ⌜ r ≡ leb (model .width) (length (now (out .entry))) ⌝ ∗ ⌜ now (out .exit) ≡ cond r (model .change-form (model .change (now (f .entry))) ++ drop (model .width) (now (out .entry))) (now (out .entry)) ⌝ };
+
+    // The change whose form is `bytes`, all of them.
+    fn read_change(bytes: &[u8]) -> Result<Self::Change, KindFault>
+        ensures { λ r. ⌜ r ≡ mapped (model .plain-change) (λ e. e) (model .read-form (now (bytes .entry))) ⌝ };
+}
+
+pub fn undone<K: Kind>(f: &K::Change) -> K::Change
+    ensures { λ r. ⌜ K·Kind .model .change r ≡ K·Kind .model .unit ⌝ }
+{
+    let g = K::inverse(f);
+    K::then(f, &g)
+}
+
+// The form of a change is read as that change, and bytes that are no change's form as none.
+pub fn forms_stand<K: Kind>() -> u8
+    ensures back { λ _. ⌜ Reads-back (K·Kind .model) ⌝ }
+    ensures others { λ _. ⌜ Reads-no-other (K·Kind .model) ⌝ }
+{
+    0
+}
