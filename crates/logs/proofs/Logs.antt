@@ -35,7 +35,7 @@ module _ {PS PC : Type 0} (K : Model PS PC) where
 
 module _ {PS PC : Type 0} (K : Model PS PC) (L : Laws K) where
   -- one more write
-  module _ (past : List (Write PC)) (w : Write PC) (rest : List (Write PC)) (rs : List (Record PC)) (fits : length past ≤ length rs) (room : length past < 65535) (A : Leaves K (past ++ w ∷ rest) rs (length past)) where
+  module _ (past : List (Write PC)) (w : Write PC) (rest : List (Write PC)) (rs : List (Record PC)) (fits : length past ≤ length rs) (room : length past ≤ 65535) (A : Leaves K (past ++ w ∷ rest) rs (length past)) where
     pub plans : Planned K L (depth K (past ++ w ∷ rest) (w .cell)) (total K (past ++ w ∷ rest) (w .cell)) (story K (past ++ w ∷ rest) (w .cell)) (w .cell) (length past) (headOf past (w .cell)) (w .change)
         (head-place K (w .cell) past (w ∷ rest)) (depth-up K (w .cell) past w rest refl) (total-up K (w .cell) past w rest L refl) rs (A (w .cell)) fits (omega (arith, depth-few K (w .cell) past w rest))
     plans = planned-right K L (depth K (past ++ w ∷ rest) (w .cell)) (total K (past ++ w ∷ rest) (w .cell)) (story K (past ++ w ∷ rest) (w .cell)) (w .cell) (length past) (headOf past (w .cell)) (w .change)
@@ -112,7 +112,7 @@ module _ {PS PC : Type 0} (K : Model PS PC) (L : Laws K) where
     pub records-leave : (rest : List (Write PC)) → length ws ≤ 65535 → Leaves K (ws ++ rest) rs (length ws)
     records-leave rest room = leaves-same K (ws ++ rest) (logOf K ws) rs (length ws) records-same (log-leaves ws rest room)
 
-    pub grows : (w : Write PC) → length ws < 65535 →
+    pub grows : (w : Write PC) → length ws ≤ 65535 →
         (r : Record PC) × (planned K rs (length ws + 1) (headOf ws (w .cell)) (w .cell) (w .change) ≡ Ok r) × (r .next ≡ headOf ws (w .cell)) × (logOf K (ws ++ w ∷ []) ≡ logOf K ws ++ r ∷ [])
     grows w room =
         let P = plans ws w [] rs log-fits room (records-leave (w ∷ []) (omega arith)) in

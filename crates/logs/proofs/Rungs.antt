@@ -20,7 +20,7 @@ use Rattle.journal.specs.Spans.{followed}
 use Rattle.journal.specs.Appends.{lone, joined, over, planned}
 use Rattle.logs.proofs.Algebra.{onward, onward-is, onward-joins}
 use Rattle.logs.proofs.Counted.{Place}
-use Rattle.logs.proofs.Reaches.{reach, reach-within, reach-some, reach-one, reach-over}
+use Rattle.logs.proofs.Reaches.{reach, reach-limit, reach-some, reach-one, reach-over}
 
 -- D tells how many writes to the cell there are up to a moment, and T what they come to
 pub record Story {PS PC : Type 0} (K : Model PS PC) (D : ℕ → ℕ) (T : ℕ → K .Change) : Type 0 where
@@ -131,7 +131,7 @@ module _ {PS PC : Type 0} (K : Model PS PC) (L : Laws K) (D : ℕ → ℕ) (T : 
               ∙ onward-joins K L (T (q .skip)) (T h) (T (n + 1));
         }
 
-    module _ (rs : List (Record PC)) (F : Faithful K D T c rs n) (fits : n ≤ length rs) (room : D n < 65535) where
+    module _ (rs : List (Record PC)) (F : Faithful K D T c rs n) (fits : n ≤ length rs) (room : D n ≤ 65535) where
       -- the record that is planned
       pub record Planned : Type 0 where
         pub made : Record PC
@@ -217,7 +217,7 @@ module _ {PS PC : Type 0} (K : Model PS PC) (L : Laws K) (D : ℕ → ℕ) (T : 
               let deep : 1 ≤ D (p .skip) = omega (arith, P .to-skip .first m) in
               let wide : reach (D n + 1) ≡ 1 + p .length + q .length =
               reach-over (D n) (D (p .skip)) jumps (omega (arith, some, head-depth)) deep (sym p-length ∙ same ∙ Q .reaches) ∙ omega (arith, p-length, Q .reaches) in
-              let short : 1 + p .length + q .length ≤ 65535 = omega (arith, reach-within (D n + 1) (omega arith)) in
+              let short : 1 + p .length + q .length ≤ 65535 = omega (arith, reach-limit (D n + 1) (omega arith) (omega arith)) in
               let big : Record PC = record { cell = c; next = h; skip = q .skip; length = 1 + p .length + q .length; foot = q .foot; change = f; fold = followed K (followed K (q .fold) (p .fold)) f } in
               record {
                 made = big;

@@ -18,11 +18,11 @@ module _ {PS PC : Type 0} (K : Model PS PC) where
   abbrev pub Logs : List (Record PC) → List (Write PC) → Type 0
   Logs rs ws = take (length ws) rs ≡ logOf K ws
 
-  -- As long as there are fewer than 65,535 records, one more write to any cell is never refused. The log then grows by its record,
+  -- With at most 65,535 records, one more write to any cell meets no bad link and no length past the limit. The log then grows by its record,
   -- which leads on to the cell's head.
   abbrev pub Never-refused : Type 0
   Never-refused =
-      (ws : List (Write PC)) (rs : List (Record PC)) → Logs rs ws → length ws < 65535 →
+      (ws : List (Write PC)) (rs : List (Record PC)) → Logs rs ws → length ws ≤ 65535 →
       (c : ℕ) (f : PC) →
       (r : Record PC) × (planned K rs (length ws + 1) (headOf ws c) c f ≡ Ok r) × (r .next ≡ headOf ws c)
       × (logOf K (ws ++ record { cell = c; change = f } ∷ []) ≡ logOf K ws ++ r ∷ [])
