@@ -1,0 +1,69 @@
+// Walks along the links of a cell, and the change between two moments.
+ghost use mathlib.Core.Path.{_≡_};
+ghost use lib.ListN.{length};
+ghost use Prim.Native.Nat.{ℕ, _<_, _≤_, _-_, _+_, _^_};
+ghost use Rattle.std.specs.Vec.{made};
+ghost use Rattle.journal.specs.Links.{newest, good, follow};
+ghost use Rattle.journal.specs.Spans.{way, taking, started, step, reach, ascent, spanned};
+use crate::faults::LadderFault;
+use crate::record::Record;
+use crate::record::cell_of;
+use crate::record::place_of;
+use kind::Kind;
+
+// How far a walk has come: the record that it stands at, what it took, and in how many steps.
+#[derive(Clone, Copy)]
+pub struct Walked<C> {
+    pub place: u32,
+    pub taken: C,
+    pub steps: u32,
+}
+
+// What is composed from a cell's records between two moments, and in how many steps it was found.
+#[derive(Clone, Copy)]
+pub struct Stretch<C> {
+    pub change: C,
+    pub steps: u32,
+}
+
+// The highest number that a record can have where `count` are said to be written.
+pub(crate) fn newest_number<C>(records: &[Record<C>], count: u32) -> u32
+    ensures { λ r. ⌜ r ≡ newest (now (records .entry)) count ⌝ }
+{
+    (count as usize).min(records.len()) as u32
+}
+
+// Whether a link is zero or names a record of the cell, not above the limit.
+fn is_good<K: Kind>(records: &[Record<K::Change>], cell: u16, limit: u32, link: u32) -> bool
+    requires { ⌜ limit ≤ length (now records) ⌝ }
+    ensures { λ r. ⌜ r ≡ good (K·Kind .model) (now (records .entry)) cell limit link ⌝ }
+{
+    if link == 0 {
+        return true;
+    }
+    if link > limit {
+        return false;
+    }
+    cell_of(&records[place_of(link as usize)]) == cell
+}
+
+// The record that a link leads to; `holder` is the record that holds it, zero for a head. The only following of a link.
+pub(crate) fn follow_link<K: Kind>(
+    records: &[Record<K::Change>],
+    cell: u16,
+    limit: u32,
+    holder: u32,
+    link: u32,
+) -> Result<u32, LadderFault>
+    requires { ⌜ limit ≤ length (now records) ⌝ }
+    ensures answer { λ r. ⌜ r ≡ follow (K·Kind .model) (now (records .entry)) cell limit holder link ⌝ }
+    ensures low { λ r. ⌜ made r (λ n. n ≤ limit) ⌝ }
+{
+    if !is_good::<K>(records, cell, limit, link) {
+        return Err(LadderFault::Link {
+            cell,
+            record: holder,
+        });
+    }
+    Ok(link)
+}
