@@ -67,3 +67,56 @@ pub(crate) fn follow_link<K: Kind>(
     }
     Ok(link)
 }
+
+// On the way to `end`: the link to follow from a record, and what is taken.
+fn rung<C: Copy>(r: &Record<C>, end: u32) -> (u32, C)
+    ensures { λ p. ⌜ p ≡ (way end (now (r .entry)), taking end (now (r .entry))) ⌝ }
+{
+    if r.foot > end {
+        (r.skip, r.fold)
+    } else {
+        (r.next, r.change)
+    }
+}
+
+// One step of a walk to `end`, from the record that it stands at.
+fn step_down<K: Kind>(
+    records: &[Record<K::Change>],
+    cell: u16,
+    end: u32,
+    from: Walked<K::Change>,
+) -> Result<Walked<K::Change>, LadderFault>
+    requires { ⌜ 0 < from .place ⌝ ∗ ⌜ from .place ≤ length (now records) ⌝ ∗ ⌜ from .steps < 2 ^ 32 - 1 ⌝ }
+    ensures answer { λ r. ⌜ r ≡ step (K·Kind .model) (now (records .entry)) cell end from ⌝ }
+    ensures low { λ r. ⌜ made r (λ w. (w .place < from .place) × (w .steps ≡ from .steps + 1)) ⌝ }
+{
+    let (link, change) = rung(&records[place_of(from.place as usize)], end);
+    let place = follow_link::<K>(records, cell, from.place - 1, from.place, link)?;
+    Ok(Walked {
+        place,
+        taken: K::then(&change, &from.taken),
+        steps: from.steps + 1,
+    })
+}
+
+// From record `start` down to zero or a record not above `end`.
+fn walk<K: Kind>(
+    records: &[Record<K::Change>],
+    cell: u16,
+    start: u32,
+    end: u32,
+) -> Result<Walked<K::Change>, LadderFault>
+    requires { ⌜ start ≤ length (now records) ⌝ }
+    ensures answer { λ r. ⌜ r ≡ reach (K·Kind .model) (now (records .entry)) cell end (started (K·Kind .model) start) ⌝ }
+    ensures low { λ r. ⌜ made r (λ w. w .steps + w .place ≤ start) ⌝ }
+{
+    let mut at = Walked {
+        place: start,
+        taken: K::unit(),
+        steps: 0,
+    };
+    while at.place > end {
+        at = step_down::<K>(records, cell, end, at)?;
+    }
+    Ok(at)
+}
