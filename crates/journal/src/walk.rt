@@ -68,15 +68,18 @@ pub(crate) fn follow_link<K: Kind>(
     Ok(link)
 }
 
-// On the way to `end`: the link to follow from a record, and what is taken.
-fn rung<C: Copy>(r: &Record<C>, end: u32) -> (u32, C)
-    ensures { λ p. ⌜ p ≡ (way end (now (r .entry)), taking end (now (r .entry))) ⌝ }
+// The link that a walk to `end` follows from a record.
+fn link_toward<C>(r: &Record<C>, end: u32) -> u32
+    ensures { λ n. ⌜ n ≡ way end (now (r .entry)) ⌝ }
 {
-    if r.foot > end {
-        (r.skip, r.fold)
-    } else {
-        (r.next, r.change)
-    }
+    if r.foot > end { r.skip } else { r.next }
+}
+
+// What a walk to `end` takes at a record.
+fn taken_at<C>(r: &Record<C>, end: u32) -> &C
+    ensures { λ f. ⌜ now f ≡ taking end (now (r .entry)) ⌝ }
+{
+    if r.foot > end { &r.fold } else { &r.change }
 }
 
 // One step of a walk to `end`, from the record that it stands at.
@@ -84,17 +87,18 @@ fn step_down<K: Kind>(
     records: &[Record<K::Change>],
     cell: u16,
     end: u32,
-    from: Walked<K::Change>,
+    from: &Walked<K::Change>,
 ) -> Result<Walked<K::Change>, LadderFault>
-    requires { ⌜ 0 < from .place ⌝ ∗ ⌜ from .place ≤ length (now records) ⌝ ∗ ⌜ from .steps < 2 ^ 32 - 1 ⌝ }
-    ensures answer { λ r. ⌜ r ≡ step (K·Kind .model) (now (records .entry)) cell end from ⌝ }
-    ensures low { λ r. ⌜ made r (λ w. (w .place < from .place) × (w .steps ≡ from .steps + 1)) ⌝ }
+    requires { ⌜ 0 < now from .place ⌝ ∗ ⌜ now from .place ≤ length (now records) ⌝ ∗ ⌜ now from .steps < 2 ^ 32 - 1 ⌝ }
+    ensures answer { λ r. ⌜ r ≡ step (K·Kind .model) (now (records .entry)) cell end (now (from .entry)) ⌝ }
+    ensures low { λ r. ⌜ made r (λ w. (w .place < now (from .entry) .place) × (w .steps ≡ now (from .entry) .steps + 1)) ⌝ }
 {
-    let (link, change) = rung(&records[place_of(from.place as usize)], end);
+    let here = &records[place_of(from.place as usize)];
+    let link = link_toward(here, end);
     let place = follow_link::<K>(records, cell, from.place - 1, from.place, link)?;
     Ok(Walked {
         place,
-        taken: K::then(&change, &from.taken),
+        taken: K::then(taken_at(here, end), &from.taken),
         steps: from.steps + 1,
     })
 }
@@ -116,7 +120,7 @@ fn walk<K: Kind>(
         steps: 0,
     };
     while at.place > end {
-        at = step_down::<K>(records, cell, end, at)?;
+        at = step_down::<K>(records, cell, end, &at)?;
     }
     Ok(at)
 }
