@@ -124,3 +124,45 @@ fn walk<K: Kind>(
     }
     Ok(at)
 }
+
+// The changes after moment `low` up to moment `high`: from the head to `high`, then on to `low`.
+fn climb<K: Kind>(
+    records: &[Record<K::Change>],
+    count: u32,
+    head: u32,
+    cell: u16,
+    low: u32,
+    high: u32,
+) -> Result<Stretch<K::Change>, LadderFault>
+    ensures { λ r. ⌜ r ≡ ascent (K·Kind .model) (now (records .entry)) count head cell low high ⌝ }
+{
+    let newest = newest_number(records, count);
+    let start = follow_link::<K>(records, cell, newest, 0, head)?;
+    let top = walk::<K>(records, cell, start, high)?;
+    let rest = walk::<K>(records, cell, top.place, low)?;
+    Ok(Stretch {
+        change: rest.taken,
+        steps: top.steps + rest.steps,
+    })
+}
+
+// The change of a cell from moment `a` to moment `b`, and the steps that were taken; backwards it is the inverse.
+pub fn span<K: Kind>(
+    records: &[Record<K::Change>],
+    count: u32,
+    head: u32,
+    cell: u16,
+    a: u32,
+    b: u32,
+) -> Result<Stretch<K::Change>, LadderFault>
+    ensures { λ r. ⌜ r ≡ spanned (K·Kind .model) (now (records .entry)) count head cell a b ⌝ }
+{
+    if a <= b {
+        return climb::<K>(records, count, head, cell, a, b);
+    }
+    let back = climb::<K>(records, count, head, cell, b, a)?;
+    Ok(Stretch {
+        change: K::inverse(&back.change),
+        steps: back.steps,
+    })
+}
