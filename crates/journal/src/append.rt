@@ -1,6 +1,7 @@
 // The record that logs one more change of a cell.
 ghost use mathlib.Core.Path.{_≡_};
-ghost use lib.ListN.{length};
+ghost use lib.Dec.{ltb};
+ghost use lib.ListN.{length, set};
 ghost use Prim.Native.Nat.{ℕ, _<_, _≤_};
 ghost use Rattle.journal.specs.Appends.{lone, joined, over, planned};
 use crate::faults::LadderFault;
@@ -92,4 +93,18 @@ pub fn next_record<K: Kind>(
         return Ok(lone_record(cell, number, next, change));
     }
     record_over::<K>(records, number, next, cell, change)
+}
+
+// Lays `r` down as record `count` + 1, and answers whether it fits; where it does not, nothing changes.
+// The only writing of a record.
+pub(crate) fn append_record<C: Copy>(records: &mut [Record<C>], count: u32, r: Record<C>) -> bool
+    ensures answer { λ fits. ⌜ fits ≡ ltb count (length (now (records .entry))) ⌝ }
+    ensures after { λ _. ⌜ now (records .exit) ≡ set (now (records .entry)) count r ⌝ }
+{
+    let place = place_of(count as usize + 1);
+    if place >= records.len() {
+        return false;
+    }
+    records[place] = r;
+    true
 }
