@@ -1,7 +1,7 @@
 // Walks along the links of a cell, and the change between two moments.
 ghost use mathlib.Core.Path.{_≡_};
 ghost use lib.ListN.{length};
-ghost use Prim.Native.Nat.{ℕ, _<_, _≤_, _-_, _+_, _^_};
+ghost use Prim.Native.Nat.{_<_, _≤_, _-_, _+_, _^_};
 ghost use Rattle.std.specs.Vec.{made};
 ghost use Rattle.journal.specs.Links.{newest, good, follow};
 ghost use Rattle.journal.specs.Spans.{way, taking, started, step, reach, ascent, spanned};
