@@ -18,7 +18,7 @@ use Rattle.journal.specs.Appends.{planned}
 use Rattle.logs.specs.Theorems.{Logs}
 use Rattle.logs.specs.Writes.{Write, headOf, logOf}
 use Rattle.logs.proofs.Proved.{never-refused, head-moves}
-use Rattle.volume.specs.Calls.{origin, difference, cleared, wrote, formatted, written}
+use Rattle.volume.specs.Calls.{origin, difference, logged, formatted, written}
 use Rattle.volume.specs.Memory.{Memory, memory}
 use Rattle.volume.specs.Sizes.{sized, sound}
 use Rattle.volume.specs.declared.refusal.Refusal.{Refusal}
@@ -53,18 +53,21 @@ module _ {PS PC : Type 0} (K : Model PS PC) where
     f = difference K (getD (v .cells) c (origin K)) s
 
     -- the tests of a write, one after the other
-    abbrev stored : Record PC → Result (Memory PS PC) Refusal
-    stored r = refuse-if (leb (length (v .records)) (v .count)) Full (Ok (memory (set (v .cells) c s) (set (v .heads) c (v .count + 1)) (set (v .records) (v .count) r) (v .count + 1)))
+    abbrev stored : Record PC → Result (List (Record PC)) Refusal
+    stored r = refuse-if (leb (length (v .records)) (v .count)) Full (Ok (set (v .records) (v .count) r))
 
-    abbrev logged : Result (Memory PS PC) Refusal
-    logged = andThen (refused-as Ladder (planned K (v .records) (v .count + 1) (getD (v .heads) c 0) c f)) stored
+    abbrev moved : List (Record PC) → Result (Memory PS PC) Refusal
+    moved rs = Ok (memory (set (v .cells) c s) (set (v .heads) c (v .count + 1)) rs (v .count + 1))
 
-    checked : written K v c s ≡ refuse-if (leb (length (v .cells)) c) Cell logged
+    abbrev tried : Result (Memory PS PC) Refusal
+    tried = andThen (logged K (v .records) (v .count) (v .count + 1) (getD (v .heads) c 0) c f) moved
+
+    checked : written K v c s ≡ refuse-if (leb (length (v .cells)) c) Cell tried
     unfolding written
-    checked = ap (λ r. andThen r (λ _. refuse-if (leb (length (v .cells)) c) Cell logged)) (sound-is K C)
+    checked = ap (λ r. andThen r (λ _. refuse-if (leb (length (v .cells)) c) Cell tried)) (sound-is K C)
 
     pub write-no-cell : h .cells ≤ c → written K v c s ≡ Err Cell
-    write-no-cell out = checked ∙ cond-true (leb (length (v .cells)) c) (Err Cell) logged (le-leb (length (v .cells)) c (omega (arith, C .all-cells)))
+    write-no-cell out = checked ∙ cond-true (leb (length (v .cells)) c) (Err Cell) tried (le-leb (length (v .cells)) c (omega (arith, C .all-cells)))
 
     module _ (in′ : c < h .cells) where
       pub size : length ws ≡ count h
@@ -83,19 +86,25 @@ module _ {PS PC : Type 0} (K : Model PS PC) where
           ∙ ap (λ n. planned K (v .records) (length ws + 1) n c f) (C .heads c in′)
           ∙ never-refused K L ws (v .records) (C .logs) few c f .1
 
-      reaches : written K v c s ≡ stored r
+      logs : logged K (v .records) (v .count) (v .count + 1) (getD (v .heads) c 0) c f ≡ stored r
+      unfolding logged
+      logs = ap (λ x. andThen (refused-as Ladder x) stored) plans
+
+      reaches : written K v c s ≡ andThen (stored r) moved
       reaches =
-          checked ∙ cond-false (leb (length (v .cells)) c) (Err Cell) logged (lt-leb (length (v .cells)) c (omega (arith, C .all-cells)))
-          ∙ ap (λ x. andThen (refused-as Ladder x) stored) plans
+          checked ∙ cond-false (leb (length (v .cells)) c) (Err Cell) tried (lt-leb (length (v .cells)) c (omega (arith, C .all-cells)))
+          ∙ ap (λ x. andThen x moved) logs
 
       pub write-full : h .capacity ≤ count h → written K v c s ≡ Err Full
-      write-full full = reaches ∙ cond-true (leb (length (v .records)) (v .count)) (Err Full) _ (le-leb (length (v .records)) (v .count) (omega (arith, C .all-records, C .counts)))
+      write-full full =
+          reaches ∙ ap (λ x. andThen x moved) (cond-true (leb (length (v .records)) (v .count)) (Err Full) (Ok (set (v .records) (v .count) r)) (le-leb (length (v .records)) (v .count) (omega (arith, C .all-records, C .counts))))
 
       abbrev pub after : Memory PS PC
       after = memory (set (v .cells) c s) (set (v .heads) c (v .count + 1)) (set (v .records) (v .count) r) (v .count + 1)
 
       pub write-taken : count h < h .capacity → written K v c s ≡ Ok after
-      write-taken some = reaches ∙ cond-false (leb (length (v .records)) (v .count)) (Err Full) (Ok after) (lt-leb (length (v .records)) (v .count) (omega (arith, C .all-records, C .counts)))
+      write-taken some =
+          reaches ∙ ap (λ x. andThen x moved) (cond-false (leb (length (v .records)) (v .count)) (Err Full) (Ok (set (v .records) (v .count) r)) (lt-leb (length (v .records)) (v .count) (omega (arith, C .all-records, C .counts))))
 
       -- the entry that it adds, and its write
       abbrev e : Entry (K .State)

@@ -33,6 +33,13 @@ module _ {PS PC : Type 0} (K : Model PS PC) where
   abbrev pub difference : PS → PS → PC
   difference s t = K .plain-change (K .diff (K .state s) (K .state t))
 
+  -- the records with one more, number `number`, after `count` of them
+  unfoldable pub logged : List (Record PC) → ℕ → ℕ → ℕ → ℕ → PC → Result (List (Record PC)) Refusal
+  logged rs count number head cell change =
+      andThen (refused-as Ladder (planned K rs number head cell change)) (λ r.
+      refuse-if (leb (length rs) count) Full (
+      Ok (set rs count r)))
+
   -- format: every cell is the origin, every head and the count are zero; the records are untouched
   abbrev pub cleared : Memory PS PC → Result (Memory PS PC) Refusal
   cleared m =
@@ -44,9 +51,8 @@ module _ {PS PC : Type 0} (K : Model PS PC) where
   wrote m cell s =
       andThen (sound (length (m .cells)) (length (m .heads)) (length (m .records)) (m .count)) (λ _.
       refuse-if (leb (length (m .cells)) cell) Cell (
-      andThen (refused-as Ladder (planned K (m .records) (m .count + 1) (getD (m .heads) cell 0) cell (difference (getD (m .cells) cell origin) s))) (λ r.
-      refuse-if (leb (length (m .records)) (m .count)) Full (
-      Ok (memory (set (m .cells) cell s) (set (m .heads) cell (m .count + 1)) (set (m .records) (m .count) r) (m .count + 1))))))
+      andThen (logged (m .records) (m .count) (m .count + 1) (getD (m .heads) cell 0) cell (difference (getD (m .cells) cell origin) s)) (λ rs.
+      Ok (memory (set (m .cells) cell s) (set (m .heads) cell (m .count + 1)) rs (m .count + 1)))))
 
   -- read: the state of a cell
   abbrev pub looked : Memory PS PC → ℕ → Result PS Refusal
