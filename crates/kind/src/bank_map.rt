@@ -6,7 +6,8 @@ use crate::arrangement::is_arrangement;
 use crate::forms::put;
 use crate::forms::same_bytes;
 ghost use mathlib.Core.Path.{_≡_};
-ghost use Rattle.kind.specs.BankMaps.{bank-map, bank-map-laws};
+ghost use Rattle.kind.specs.BankMaps.{bank-map};
+ghost use Rattle.kind.specs.laws.BankMaps.{bank-map-laws};
 
 pub struct BankMap;
 

@@ -6,7 +6,9 @@ use crate::forms::put;
 use crate::forms::same_bytes;
 ghost use mathlib.Core.Path.{_≡_};
 ghost use mathlib.Core.Bool.{true};
-ghost use Rattle.kind.specs.Blocks.{block, block-laws, block?, xors};
+ghost use Rattle.kind.specs.Blocks.{block};
+ghost use Rattle.kind.specs.Xors.{block?, xors};
+ghost use Rattle.kind.specs.laws.Blocks.{block-laws};
 
 pub struct Block;
 

@@ -4,7 +4,8 @@ use crate::KindFault;
 use crate::forms::put;
 ghost use mathlib.Core.Path.{_≡_};
 ghost use lib.IntN.{pos};
-ghost use Rattle.kind.specs.Tallies.{tally, tally-laws};
+ghost use Rattle.kind.specs.Tallies.{tally};
+ghost use Rattle.kind.specs.laws.Tallies.{tally-laws};
 
 pub struct Tally;
 
