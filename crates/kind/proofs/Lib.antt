@@ -1,2 +1,1 @@
 pub mod ArrangementLoops
-pub mod Reading

@@ -1,6 +1,7 @@
 pub mod Answers
 pub mod Bytes
 pub mod Model
+pub mod Calls
 pub mod Forms
 pub mod Passing
 pub mod Xors
