@@ -1,1 +1,2 @@
 pub mod ArrangementLoops
+pub mod Meant

@@ -9,4 +9,5 @@ pub mod Blocks
 pub mod Tallies
 pub mod Arrangements
 pub mod BankMaps
+pub mod Meanings
 pub mod laws
