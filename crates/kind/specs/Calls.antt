@@ -1,5 +1,4 @@
 -- What the calls of a kind answer, of the plain values that are handed in. Assumes nothing.
-use mathlib.Core.Bool.{Bool}
 use Rattle.kind.specs.Model.{Model}
 
 module _ {PS PC : Type 0} (K : Model PS PC) where

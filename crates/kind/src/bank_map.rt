@@ -5,7 +5,6 @@ use crate::arrangement::Arrangement;
 use crate::arrangement::is_arrangement;
 use crate::forms::put;
 use crate::forms::same_bytes;
-ghost use mathlib.Core.Path.{_≡_};
 ghost use Rattle.kind.specs.BankMaps.{bank-map};
 ghost use Rattle.kind.specs.laws.BankMaps.{bank-map-laws};
 

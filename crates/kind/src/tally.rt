@@ -2,8 +2,6 @@
 use crate::Kind;
 use crate::KindFault;
 use crate::forms::put;
-ghost use mathlib.Core.Path.{_≡_};
-ghost use lib.IntN.{pos};
 ghost use Rattle.kind.specs.Tallies.{tally};
 ghost use Rattle.kind.specs.laws.Tallies.{tally-laws};
 
