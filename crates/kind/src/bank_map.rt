@@ -1,4 +1,5 @@
-// A map of 16 pages, which changes by arrangements.
+// The bank map: an arrangement of 16 page numbers, which changes by arrangements. It lies in memory as 16 plain bytes, from
+// which the arrangement is made at each use; bytes that are none are taken for the one in order.
 use crate::Kind;
 use crate::KindFault;
 use crate::arrangement::Arrangement;

@@ -1,4 +1,4 @@
-// A block of 128 bytes, which changes by xor.
+// The block: 128 bytes, which change by XOR of equal places.
 use crate::Kind;
 use crate::KindFault;
 use crate::forms::put;

@@ -1,4 +1,4 @@
-// A count that wraps: sums modulo 2 ^ 32.
+// The tally: a signed number of 32 bits, which changes by sums modulo 2 ^ 32.
 use crate::Kind;
 use crate::KindFault;
 use crate::forms::put;
