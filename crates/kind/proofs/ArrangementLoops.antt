@@ -11,30 +11,20 @@ use lib.Dec.{eqb}
 use lib.ListN.{length, getD, set, take}
 use Rattle.std.proofs.shelf.Lists.{ext-getD, length-map, getD-set-same, getD-set-other, take-all}
 use Rattle.std.proofs.shelf.Tests.{cases-eq, eq-eqb, ne-eqb}
-use Rattle.kind.specs.Arrange.{arrangement?, place, count, bit, arr-low, arr-place, arr-only, arr-once, arrangement-from-counts, count-more, count-front}
-use Rattle.kind.specs.BankMaps.{Map, through-passes, inverted-passes}
-use Rattle.kind.specs.Lists.{through, inverted, getD-through, getD-inverted, length-inverted}
+use Rattle.kind.specs.Arrangements.{arrangement?, place, count, through, inverted}
+use Rattle.kind.specs.laws.Arrangements.{bit, arr-low, arr-place, arr-apart, arr-once, arrangement-from-counts, count-more, count-front, getD-through, getD-inverted, length-inverted}
 
 pub through-all : (f g out : List ℕ) → length f ≡ 16 → length out ≡ 16 → ((k : ℕ) → k < 16 → getD out k 0 ≡ getD g (getD f k 0) 0) → out ≡ through f g
 through-all f g out n m h =
     let l = length-map f (λ k. getD g k 0) in
     ext-getD 0 out (through f g) (omega arith) (λ k p. h k (omega arith) ∙ sym (getD-through f g k (omega arith)))
 
-pub through-ok : (f g : List ℕ) → arrangement? f ≡ true → arrangement? g ≡ true → arrangement? (through f g) ≡ true
-through-ok f g p q = let x : Map = record { list = f; passes = p } in let y : Map = record { list = g; passes = q } in through-passes x y
-
-pub inverted-ok : (f : List ℕ) → arrangement? f ≡ true → arrangement? (inverted f) ≡ true
-inverted-ok f p = let x : Map = record { list = f; passes = p } in inverted-passes x
-
 module _ (f : List ℕ) (ok : arrangement? f ≡ true) where
-  apart : (i j : ℕ) → i < 16 → j < 16 → getD f i 0 ≡ getD f j 0 → i ≡ j
-  apart i j p q e = sym (arr-only f ok i p) ∙ ap (λ k. place k f) e ∙ arr-only f ok j q
-
   pub inverse-more : (out : List ℕ) (i : ℕ) → i < 16 → length out ≡ 16 → ((k : ℕ) → k < i → getD out (getD f k 0) 0 ≡ k) → (k : ℕ) → k < i + 1 → getD (set out (getD f i 0) i) (getD f k 0) 0 ≡ k
   inverse-more out i p n h =
       let low = arr-low f ok i p in
       below-more (λ k. getD (set out (getD f i 0) i) (getD f k 0) 0 ≡ k) i
-      (λ k l. getD-set-other out (getD f i 0) (getD f k 0) i 0 (λ e. let s = apart k i (omega arith) p e in omega arith) ∙ h k l)
+      (λ k l. getD-set-other out (getD f i 0) (getD f k 0) i 0 (λ e. let s = arr-apart f ok k i (omega arith) p e in omega arith) ∙ h k l)
       (getD-set-same out (getD f i 0) i 0 (omega arith))
 
   pub inverse-all : (out : List ℕ) → length out ≡ 16 → ((k : ℕ) → k < 16 → getD out (getD f k 0) 0 ≡ k) → out ≡ inverted f
