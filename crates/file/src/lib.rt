@@ -1,0 +1,5 @@
+// The saved form of a volume: a header of eight bytes, then one record after another.
+pub mod faults;
+pub mod header;
+pub mod letters;
+mod numbers;
