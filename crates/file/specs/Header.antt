@@ -17,7 +17,7 @@ use Rattle.file.specs.declared.faults.FileFault.the-variants.{Short, Letter, V
 use Rattle.file.specs.declared.header.Header.{Header}
 use Rattle.file.specs.declared.header.Handed.{Handed}
 use Rattle.file.specs.declared.letters.BoardKind.{BoardKind}
-use Rattle.file.specs.Letters.{kind-of, width-of}
+use Rattle.file.specs.Letters.{kind-of, width-of, width-under}
 
 -- the letter, the version, the cells and the count in the first eight bytes
 abbrev pub letter-at : List ℕ → ℕ
@@ -72,12 +72,8 @@ abbrev pub any-header : List ℕ → Result Header FileFault
 any-header f = refuse-if (ltb (length f) 8) Short (by-kind (kind-of (letter-at f)) f)
 
 -- how wide a change is under the file's letter
-abbrev pub wide : Option BoardKind → ℕ
-wide None = 0
-wide (Some k) = width-of k
-
 abbrev pub width-at : List ℕ → ℕ
-width-at f = wide (kind-of (letter-at f))
+width-at f = width-under (letter-at f)
 
 -- the file is as long as its count says
 pub record Whole (width : ℕ) (f : List ℕ) : Type 0 where

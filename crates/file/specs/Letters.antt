@@ -25,6 +25,14 @@ width-of BankMap = bank-map .width
 abbrev pub kind-of : ℕ → Option BoardKind
 kind-of c = cond (eqb c 66) (Some Block) (cond (eqb c 84) (Some Tally) (cond (eqb c 77) (Some BankMap) None))
 
+-- the width of a change under a letter, or 0 where no kind has it
+abbrev pub some-width : Option BoardKind → ℕ
+some-width None = 0
+some-width (Some k) = width-of k
+
+abbrev pub width-under : ℕ → ℕ
+width-under c = some-width (kind-of c)
+
 -- each kind's letter is known as that kind's, and no other letter is
 pub record Letters-known : Type 0 where
   pub known : (k : BoardKind) → kind-of (letter-of k) ≡ Some k

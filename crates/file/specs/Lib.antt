@@ -1,3 +1,5 @@
 pub mod Faults
 pub mod Letters
 pub mod Header
+pub mod Records
+pub mod Items

@@ -1,6 +1,6 @@
 // The kinds on board, by the letter that opens a file.
 ghost use mathlib.Core.Path.{_≡_};
-ghost use Rattle.file.specs.Letters.{kind-of, width-of, letter-of, Letters-known};
+ghost use Rattle.file.specs.Letters.{kind-of, width-of, width-under, Letters-known};
 use kind::Kind;
 use kind::bank_map::BankMap;
 use kind::bank_map::BankMapKind;
@@ -38,6 +38,16 @@ impl BoardKind {
             BoardKind::Tally => Tally::width(),
             BoardKind::BankMap => BankMap::width(),
         }
+    }
+}
+
+// How many bytes a change has under this letter, or 0 where no kind has it.
+pub(crate) fn width_under(letter: char) -> usize
+    ensures { λ r. ⌜ r ≡ width-under letter ⌝ }
+{
+    match kind_of(letter) {
+        Some(kind) => kind.width(),
+        None => 0,
     }
 }
 

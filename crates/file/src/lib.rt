@@ -1,5 +1,7 @@
 // The saved form of a volume: a header of eight bytes, then one record after another.
 pub mod faults;
 pub mod header;
+pub mod items;
 pub mod letters;
 mod numbers;
+pub mod records;
