@@ -1,8 +1,6 @@
 // A file's header and records, one at a time.
 ghost use mathlib.Core.Path.{_≡_};
-ghost use mathlib.Core.Bool.{false};
-ghost use Prim.Native.Nat.{_≤_};
-ghost use Rattle.file.specs.Items.{item, seen, after, final, Borrowed, answer, Again, In-turn};
+ghost use Rattle.file.specs.Items.{item, seen, after, Borrowed, answer, Again, In-turn};
 use crate::faults::FileFault;
 use crate::header::Header;
 use crate::header::any_header;
@@ -57,4 +55,23 @@ impl<'a> Items<'a> {
         self.given = given + 1;
         Ok(Item::Record(found))
     }
+}
+
+// What call number `n` of `next_item` answers, from 0.
+pub fn nth_answer(file: &[u8], n: u32) -> Result<Item<'_>, FileFault>
+    ensures { λ r. ⌜ seen r ≡ answer (now (file .entry)) n ⌝ }
+{
+    let mut items = Items::new(file);
+    for _i in 0..n {
+        let _ = items.next_item();
+    }
+    items.next_item()
+}
+
+// An end or a refusal is given again, and before it the items come in turn.
+pub fn items_stand() -> u8
+    ensures again { λ _. ⌜ Again ⌝ }
+    ensures in_turn { λ _. ⌜ In-turn ⌝ }
+{
+    0
 }
