@@ -3,3 +3,4 @@ pub mod Letters
 pub mod Header
 pub mod Records
 pub mod Items
+pub mod States

@@ -5,3 +5,4 @@ pub mod items;
 pub mod letters;
 mod numbers;
 pub mod records;
+pub mod states;

@@ -27,7 +27,9 @@ pub struct SavedRecord<'a> {
 
 // The bytes of record `n`, from 1.
 fn stretch(file: &[u8], width: usize, n: u32) -> &[u8]
-    requires { ⌜ width ≤ 256 ⌝ ∗ ⌜ 1 ≤ n ⌝ ∗ ⌜ file-length width n ≤ length (now file) ⌝ }
+    requires narrow { ⌜ width ≤ 256 ⌝ }
+    requires counted { ⌜ 1 ≤ n ⌝ }
+    requires there { ⌜ file-length width n ≤ length (now file) ⌝ }
     ensures value { λ r. ⌜ now r ≡ record-bytes width (now (file .entry)) n ⌝ }
     ensures long { λ r. ⌜ length (now r) ≡ 6 + width ⌝ }
     ensures place { λ r. ⌜ Lies (file .entry) (record-start width n) r ⌝ }
@@ -51,7 +53,9 @@ fn parts(bytes: &[u8]) -> SavedRecord<'_>
 
 // Record `n` of a file that is long enough for it.
 pub(crate) fn saved_record(file: &[u8], width: usize, n: u32) -> SavedRecord<'_>
-    requires { ⌜ width ≤ 256 ⌝ ∗ ⌜ 1 ≤ n ⌝ ∗ ⌜ file-length width n ≤ length (now file) ⌝ }
+    requires narrow { ⌜ width ≤ 256 ⌝ }
+    requires counted { ⌜ 1 ≤ n ⌝ }
+    requires there { ⌜ file-length width n ≤ length (now file) ⌝ }
     ensures value { λ r. ⌜ parts-seen r ≡ parts-of (record-bytes width (now (file .entry)) n) ⌝ }
     ensures place { λ r. ⌜ Lies (file .entry) (6 + record-start width n) (r .change) ⌝ }
 {
