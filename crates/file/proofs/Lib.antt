@@ -1,3 +1,4 @@
 pub mod Turns
 pub mod Owners
 pub mod Replay
+pub mod Tells

@@ -4,3 +4,5 @@ pub mod Header
 pub mod Records
 pub mod Items
 pub mod States
+pub mod Told
+pub mod Forms

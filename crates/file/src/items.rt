@@ -69,9 +69,8 @@ pub fn nth_answer(file: &[u8], n: u32) -> Result<Item<'_>, FileFault>
 }
 
 // An end or a refusal is given again, and before it the items come in turn.
-pub fn items_stand() -> u8
+pub fn items_stand()
     ensures again { λ _. ⌜ Again ⌝ }
     ensures in_turn { λ _. ⌜ In-turn ⌝ }
 {
-    0
 }

@@ -52,8 +52,7 @@ pub(crate) fn width_under(letter: char) -> usize
 }
 
 // A letter is known just where it is that of a kind on board.
-pub fn letters_stand() -> u8
+pub fn letters_stand()
     ensures { λ _. ⌜ Letters-known ⌝ }
 {
-    0
 }

@@ -1,5 +1,6 @@
 // The saved form of a volume: a header of eight bytes, then one record after another.
 pub mod faults;
+pub mod forms;
 pub mod header;
 pub mod items;
 pub mod letters;

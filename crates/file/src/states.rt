@@ -7,6 +7,7 @@ ghost use Rattle.file.specs.Faults.{at-record};
 ghost use Rattle.file.specs.Header.{Whole, cells-at, count-at};
 ghost use Rattle.file.specs.Records.{parts-seen};
 ghost use Rattle.file.specs.States.{change-for, replayed, state-after};
+ghost use Rattle.file.specs.Told.{Recalls, Lasts};
 use crate::faults::AtRecord;
 use crate::faults::FileFault;
 use crate::faults::FileFaultFromKind;
@@ -76,4 +77,12 @@ pub fn state_after<K: Kind>(file: &[u8], cell: u32, moment: u32) -> Result<K::St
 {
     let header = read_header::<K>(file)?;
     replayed::<K>(file, header.cells, cell, moment.min(header.count))
+}
+
+// The state is the origin acted on by the cell's changes in order, and a record's next is held to the greatest lower
+// number of its cell.
+pub fn states_stand<K: Kind>()
+    ensures recalls { λ _. ⌜ Recalls (K·Kind .model) ⌝ }
+    ensures lasts { λ _. ⌜ Lasts (K·Kind .model) ⌝ }
+{
 }
