@@ -2,3 +2,5 @@ pub mod Turns
 pub mod Owners
 pub mod Replay
 pub mod Tells
+pub mod Puts
+pub mod Backs

@@ -6,3 +6,4 @@ pub mod Items
 pub mod States
 pub mod Told
 pub mod Forms
+pub mod Back

@@ -2,9 +2,9 @@
 ghost use mathlib.Core.Path.{_≡_};
 ghost use mathlib.Core.Bool.{cond, _&&_};
 ghost use mathlib.Core.List.{_++_};
-ghost use Prim.Native.Nat.{_+_};
+ghost use Prim.Native.Nat.{_+_, _≤_};
 ghost use lib.Dec.{ltb, leb};
-ghost use lib.ListN.{length, drop};
+ghost use lib.ListN.{length, take, drop};
 ghost use Rattle.file.specs.Forms.{le16-form, le32-form, header-form, record-form};
 use crate::header::HEADER;
 use crate::header::VERSION;
@@ -53,4 +53,25 @@ fn record_head(next: u32, cell: u16) -> [u8; 6]
     let [n0, n1, n2, n3] = next.to_le_bytes();
     let [c0, c1] = cell.to_le_bytes();
     [n0, n1, n2, n3, c0, c1]
+}
+
+// Writes the change's form to `out` from byte 6 on.
+fn put_change<K: Kind>(change: &K::Change, out: &mut [u8])
+    requires { ⌜ 6 + K·Kind .model .width ≤ length (now out) ⌝ }
+    ensures { λ _. ⌜ now (out .exit) ≡ take 6 (now (out .entry)) ++ (K·Kind .model .change-form (K·Kind .model .change (now (change .entry))) ++ drop (6 + K·Kind .model .width) (now (out .entry))) ⌝ }
+{
+    let _ = K::write_change(change, &mut out[RECORD..]);
+}
+
+// Writes a record to the front of `out`. False, and nothing written, where `out` is shorter than that.
+pub fn write_record<K: Kind>(next: u32, cell: u16, change: &K::Change, out: &mut [u8]) -> bool
+    ensures done { λ r. ⌜ r ≡ leb (6 + K·Kind .model .width) (length (now (out .entry))) ⌝ }
+    ensures area { λ r. ⌜ now (out .exit) ≡ cond r (record-form (K·Kind .model) (record { next = next; cell = cell; change = K·Kind .model .change (now (change .entry)) }) ++ drop (6 + K·Kind .model .width) (now (out .entry))) (now (out .entry)) ⌝ }
+{
+    if out.len() < RECORD + K::width() {
+        return false;
+    }
+    let _ = put(&record_head(next, cell), out);
+    put_change::<K>(change, out);
+    true
 }

@@ -1,0 +1,52 @@
+-- Reading what was written gives it back: what a file's form is read as. Assumes nothing.
+use mathlib.Core.Path.{_≡_}
+use mathlib.Core.Bool.{false}
+use mathlib.Core.List.{List, _∷_, _++_}
+use Prim.Native.Nat.{ℕ, _+_, _^_, _<_, _≤_}
+use lib.ListN.{length}
+use Rattle.std.specs.declared.option.Option.{Option}
+use Rattle.std.specs.declared.option.Option.the-variants.{None}
+use Rattle.std.specs.declared.result.Result.the-variants.{Ok}
+use Rattle.kind.specs.Model.{Model}
+use Rattle.file.specs.declared.header.Handed.{Handed}
+use Rattle.file.specs.declared.header.Header.{Header}
+use Rattle.file.specs.declared.letters.BoardKind.{BoardKind}
+use Rattle.file.specs.Letters.{letter-of, width-of}
+use Rattle.file.specs.Header.{header-of, any-header, other-cells, past-room, file-length}
+use Rattle.file.specs.Records.{Parts, parts-of, record-bytes}
+use Rattle.file.specs.Forms.{header-form, Line, record-form, file-form}
+
+-- a header that keeps the limits, with as many bytes after it as its count asks for
+pub record Sized (width cells count : ℕ) (rest : List ℕ) : Type 0 where
+  pub some-cells : 1 ≤ cells
+  pub few-cells : cells ≤ 4096
+  pub few-records : count ≤ 65535
+  pub long : length (header-form 0 cells count ++ rest) ≡ file-length width count
+
+abbrev pub Any-header-back : Type 0
+Any-header-back = (k : BoardKind) (cells count : ℕ) (rest : List ℕ) → Sized (width-of k) cells count rest → any-header (header-form (letter-of k) cells count ++ rest) ≡ Ok (record { letter = letter-of k; cells = cells; count = count })
+
+module _ {PS PC : Type 0} (K : Model PS PC) where
+  -- also by a load, where it is handed as many cells and enough room
+  abbrev pub Header-back : Type 0
+  Header-back =
+      (handed : Option Handed) (cells count : ℕ) (rest : List ℕ) → Sized (K .width) cells count rest → other-cells handed cells ≡ false → past-room handed count ≡ false →
+      header-of K handed (header-form (K .letter) cells count ++ rest) ≡ Ok (record { letter = K .letter; cells = cells; count = count })
+
+  -- a record's numbers fit their bytes
+  pub record Numbered (r : Line K) : Type 0 where
+    pub next : r .next < 2 ^ 32
+    pub cell : r .cell < 2 ^ 16
+
+  abbrev pub Record-back : Type 0
+  Record-back = (r : Line K) → Numbered r → parts-of (record-form K r) ≡ record { next = r .next; cell = r .cell; change = K .change-form (r .change) }
+
+  abbrev pub Change-back : Type 0
+  Change-back = (r : Line K) → K .read-form (parts-of (record-form K r) .change) ≡ Ok (r .change)
+
+  -- each record of a file lies where it is looked for, and the file is as long as its count asks for
+  abbrev pub Placed : Type 0
+  Placed = (cells : ℕ) (before after : List (Line K)) (r : Line K) → record-bytes (K .width) (file-form K cells (before ++ (r ∷ after))) (length before + 1) ≡ record-form K r
+
+  abbrev pub Long : Type 0
+  Long = (cells : ℕ) (rs : List (Line K)) → length (file-form K cells rs) ≡ file-length (K .width) (length rs)
