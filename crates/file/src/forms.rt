@@ -5,6 +5,7 @@ ghost use mathlib.Core.List.{_++_};
 ghost use Prim.Native.Nat.{_+_, _≤_};
 ghost use lib.Dec.{ltb, leb};
 ghost use lib.ListN.{length, take, drop};
+ghost use Rattle.file.specs.Back.{Any-header-back, Header-back, Record-back, Change-back, Placed, Long};
 ghost use Rattle.file.specs.Forms.{le16-form, le32-form, header-form, record-form};
 use crate::header::HEADER;
 use crate::header::VERSION;
@@ -74,4 +75,15 @@ pub fn write_record<K: Kind>(next: u32, cell: u16, change: &K::Change, out: &mut
     let _ = put(&record_head(next, cell), out);
     put_change::<K>(change, out);
     true
+}
+
+// Reading gives back what was written, by header and record by record.
+pub fn files_read_back<K: Kind>()
+    ensures any_header { λ _. ⌜ Any-header-back ⌝ }
+    ensures header { λ _. ⌜ Header-back (K·Kind .model) ⌝ }
+    ensures parts { λ _. ⌜ Record-back (K·Kind .model) ⌝ }
+    ensures change { λ _. ⌜ Change-back (K·Kind .model) ⌝ }
+    ensures placed { λ _. ⌜ Placed (K·Kind .model) ⌝ }
+    ensures long { λ _. ⌜ Long (K·Kind .model) ⌝ }
+{
 }
