@@ -62,7 +62,7 @@ module _ (width : ℕ) (handed : Option Handed) (letter cells count : ℕ) (rest
       let e0 : eqb cells 0 ≡ false = ne-eqb cells 0 (λ z. let p = s .some-cells in omega arith) in
       let e1 : ltb 4096 cells ≡ false = le-ltb 4096 cells (s .few-cells) in
       let e2 : ltb 65535 count ≡ false = le-ltb 65535 count (s .few-records) in
-      let e3 : eqb (length f) (file-length width count) ≡ true = eq-eqb (length f) (file-length width count) l in
+      let e3 : eqb (length f) (file-length width count) ≡ true = eq-eqb (length f) (file-length width count) (omega arith) in
       rw (cells-back, count-back, e0, e1, as-many, e2, room, e3)
 
 refused-not : (width letter cells count : ℕ) (rest : List ℕ) → Sized width cells count rest → refuse-if (ltb (length (whole letter cells count rest)) 8) Short (after-letter width None (whole letter cells count rest)) ≡ Ok (record { letter = letter; cells = cells; count = count })

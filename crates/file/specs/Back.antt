@@ -2,7 +2,7 @@
 use mathlib.Core.Path.{_≡_}
 use mathlib.Core.Bool.{false}
 use mathlib.Core.List.{List, _∷_, _++_}
-use Prim.Native.Nat.{ℕ, _+_, _^_, _<_, _≤_}
+use Prim.Native.Nat.{ℕ, _+_, _*_, _^_, _<_, _≤_}
 use lib.ListN.{length}
 use Rattle.std.specs.declared.option.Option.{Option}
 use Rattle.std.specs.declared.option.Option.the-variants.{None}
@@ -21,7 +21,7 @@ pub record Sized (width cells count : ℕ) (rest : List ℕ) : Type 0 where
   pub some-cells : 1 ≤ cells
   pub few-cells : cells ≤ 4096
   pub few-records : count ≤ 65535
-  pub long : length (header-form 0 cells count ++ rest) ≡ file-length width count
+  pub long : length rest ≡ count * (6 + width)
 
 abbrev pub Any-header-back : Type 0
 Any-header-back = (k : BoardKind) (cells count : ℕ) (rest : List ℕ) → Sized (width-of k) cells count rest → any-header (header-form (letter-of k) cells count ++ rest) ≡ Ok (record { letter = letter-of k; cells = cells; count = count })

@@ -10,13 +10,17 @@ use Rattle.std.specs.declared.option.Option.the-variants.{Some, None}
 use Rattle.std.specs.declared.result.Result.{Result}
 use Rattle.std.specs.declared.result.Result.the-variants.{Ok, Err}
 use Rattle.kind.specs.Answers.{refuse-if}
+use Rattle.kind.specs.BankMaps.{bank-map}
+use Rattle.kind.specs.Blocks.{block}
 use Rattle.kind.specs.Bytes.{le16, le32}
 use Rattle.kind.specs.Model.{Model}
+use Rattle.kind.specs.Tallies.{tally}
 use Rattle.file.specs.declared.faults.FileFault.{FileFault}
 use Rattle.file.specs.declared.faults.FileFault.the-variants.{Short, Letter, Version, Cells, Count, Length}
 use Rattle.file.specs.declared.header.Header.{Header}
 use Rattle.file.specs.declared.header.Handed.{Handed}
 use Rattle.file.specs.declared.letters.BoardKind.{BoardKind}
+use Rattle.file.specs.declared.letters.BoardKind.the-variants.{Block, Tally, BankMap}
 use Rattle.file.specs.Letters.{kind-of, width-of, width-under}
 
 -- the letter, the version, the cells and the count in the first eight bytes
@@ -70,6 +74,15 @@ by-kind (Some k) f = after-letter (width-of k) None f
 
 abbrev pub any-header : List ℕ → Result Header FileFault
 any-header f = refuse-if (ltb (length f) 8) Short (by-kind (kind-of (letter-at f)) f)
+
+-- a file is read by its letter as it is by that letter's kind
+abbrev pub header-by : BoardKind → List ℕ → Result Header FileFault
+header-by Block f = header-of block None f
+header-by Tally f = header-of tally None f
+header-by BankMap f = header-of bank-map None f
+
+abbrev pub Headers-agree : Type 0
+Headers-agree = (f : List ℕ) (k : BoardKind) → kind-of (letter-at f) ≡ Some k → any-header f ≡ header-by k f
 
 -- how wide a change is under the file's letter
 abbrev pub width-at : List ℕ → ℕ

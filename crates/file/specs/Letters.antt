@@ -33,7 +33,7 @@ some-width (Some k) = width-of k
 abbrev pub width-under : ℕ → ℕ
 width-under c = some-width (kind-of c)
 
--- each kind's letter is known as that kind's, and no other letter is
+-- each kind's letter is known as that kind's, with its width, and no other letter is known
 pub record Letters-known : Type 0 where
-  pub known : (k : BoardKind) → kind-of (letter-of k) ≡ Some k
+  pub known : (k : BoardKind) → (kind-of (letter-of k) ≡ Some k) × (width-under (letter-of k) ≡ width-of k)
   pub only : (c : ℕ) (k : BoardKind) → kind-of c ≡ Some k → c ≡ letter-of k

@@ -4,7 +4,7 @@ ghost use Prim.Native.Nat.{ℕ, _+_, _*_, _≤_};
 ghost use lib.ListN.{length};
 ghost use Rattle.std.specs.Vec.{made};
 ghost use Rattle.std.specs.declared.option.Option.the-variants.{Some, None};
-ghost use Rattle.file.specs.Header.{other-cells, past-room, after-letter, header-of, any-header, width-at, Fits};
+ghost use Rattle.file.specs.Header.{other-cells, past-room, after-letter, header-of, any-header, width-at, Headers-agree, Fits};
 use crate::faults::FileFault;
 use crate::letters::kind_of;
 use crate::numbers::u16_at;
@@ -123,4 +123,10 @@ pub fn any_header(file: &[u8]) -> Result<Header, FileFault>
         Some(kind) => after_letter(file, kind.width(), None),
         None => Err(FileFault::Letter),
     }
+}
+
+// A file is read by its letter as it is by that letter's kind.
+pub fn headers_agree()
+    ensures { λ _. ⌜ Headers-agree ⌝ }
+{
 }

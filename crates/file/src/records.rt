@@ -10,6 +10,7 @@ use crate::faults::FileFault;
 use crate::header::HEADER;
 use crate::numbers::u16_at;
 use crate::numbers::u32_at;
+use kind::Kind;
 
 // The bytes of a record before its change.
 pub const RECORD: usize = 6;
@@ -25,6 +26,21 @@ pub struct SavedRecord<'a> {
     pub change: &'a [u8],
 }
 
+// Where record `n` begins, from 1: nothing else says where a record lies.
+pub(crate) fn start_of(width: usize, n: u32) -> usize
+    requires { ⌜ width ≤ 256 ⌝ }
+    ensures { λ r. ⌜ r ≡ record-start width n ⌝ }
+{
+    HEADER + n.saturating_sub(1) as usize * (RECORD + width)
+}
+
+// How many bytes a file of so many records has.
+pub fn file_length<K: Kind>(count: u32) -> usize
+    ensures { λ r. ⌜ r ≡ file-length (K·Kind .model .width) count ⌝ }
+{
+    HEADER + count as usize * (RECORD + K::width())
+}
+
 // The bytes of record `n`, from 1.
 fn stretch(file: &[u8], width: usize, n: u32) -> &[u8]
     requires narrow { ⌜ width ≤ 256 ⌝ }
@@ -34,7 +50,7 @@ fn stretch(file: &[u8], width: usize, n: u32) -> &[u8]
     ensures long { λ r. ⌜ length (now r) ≡ 6 + width ⌝ }
     ensures place { λ r. ⌜ Lies (file .entry) (record-start width n) r ⌝ }
 {
-    let start = HEADER + (n - 1) as usize * (RECORD + width);
+    let start = start_of(width, n);
     &file[start..start + RECORD + width]
 }
 
