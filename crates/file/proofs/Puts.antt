@@ -1,23 +1,37 @@
 -- What lies in an area after a record's head and then its change are written. Assumes nothing.
 use mathlib.Core.Path.{_≡_, sym, ap, _∙_}
-use mathlib.Core.Bool.{Bool, cond}
-use mathlib.Core.List.{List, _++_, append-nil}
+use mathlib.Core.Bool.{Bool, true, false, cond}
+use mathlib.Core.Logic.{inl, inr}
+use mathlib.Core.List.{List, [], _++_, append-nil}
 use Prim.Native.Nat.{ℕ, _+_, _-_, _≤_}
 use native.Mathlib.Omega.{arith}
 use lib.Dec.{leb}
-use lib.ListN.{length, take, drop, length-drop, drop-of-length-le}
+use lib.ListN.{length, take, drop, take-append-drop, length-drop, drop-of-length-le}
 use lib.Seq.{drop-drop, take-at}
 use Rattle.std.proofs.shelf.Parts.{drop-append-drop}
-use Rattle.std.proofs.shelf.Tests.{le-leb, cond-true}
+use Rattle.std.proofs.shelf.Tests.{le-leb, lt-leb, cond-true, cases-lt}
 
--- the change at byte 6: ys is what the part from there holds after
-pub change-put : (xs form part ys : List ℕ) (w : ℕ) (r : Bool) → 6 + w ≤ length xs → part ≡ drop 6 xs → r ≡ leb w (length part) → ys ≡ cond r (form ++ drop w part) part → take 6 xs ++ (ys ++ drop (length xs - 6) (drop 6 xs)) ≡ take 6 xs ++ (form ++ drop (6 + w) xs)
-change-put xs form part ys w r fits ep er ey =
-    let n : w ≤ length part = omega (arith, ap length ep, length-drop 6 xs) in
-    let rest : drop (length xs - 6) (drop 6 xs) ≡ _ = drop-of-length-le (drop 6 xs) (omega (arith, length-drop 6 xs)) in
-    let all : ys ≡ form ++ drop (6 + w) xs =
-        ey ∙ cond-true r (form ++ drop w part) part (er ∙ le-leb w (length part) n) ∙ ap (λ p. form ++ drop w p) ep ∙ ap (λ d. form ++ d) (drop-drop w 6 xs) in
-    ap (λ d. take 6 xs ++ (ys ++ d)) rest ∙ ap (λ y. take 6 xs ++ y) (append-nil ys ∙ all)
+-- a form that is written to the part from `at` on: ys is what the part holds after
+module _ (xs form part ys : List ℕ) (at w : ℕ) (within : at ≤ length xs) (ep : part ≡ drop at xs) where
+  abbrev after : List ℕ
+  after = take at xs ++ (ys ++ drop (length xs - at) (drop at xs))
+
+  after-is : after ≡ take at xs ++ ys
+  after-is =
+      let rest : drop (length xs - at) (drop at xs) ≡ [] = drop-of-length-le (drop at xs) (omega (arith, length-drop at xs)) in
+      ap (λ d. take at xs ++ (ys ++ d)) rest ∙ ap (λ y. take at xs ++ y) (append-nil ys)
+
+  pub part-put : (r : Bool) → ys ≡ cond r (form ++ drop w part) part → after ≡ cond r (take at xs ++ (form ++ drop (at + w) xs)) xs
+  part-put true ey = after-is ∙ ap (λ y. take at xs ++ y) (ey ∙ ap (λ p. form ++ drop w p) ep ∙ ap (λ d. form ++ d) (drop-drop w at xs))
+  part-put false ey = after-is ∙ ap (λ y. take at xs ++ y) (ey ∙ ep) ∙ take-append-drop at xs
+
+  pub part-fits : leb w (length part) ≡ leb (at + w) (length xs)
+  part-fits =
+      let n : length part ≡ length xs - at = ap length ep ∙ length-drop at xs in
+      elim (cases-lt (length part) w) [
+        | inl high ↦ lt-leb w (length part) high ∙ sym (lt-leb (at + w) (length xs) (omega arith))
+        | inr low ↦ le-leb w (length part) low ∙ sym (le-leb (at + w) (length xs) (omega arith))
+      ]
 
 -- first the head, then the change
 pub record-put : (head form was mid out : List ℕ) (w : ℕ) (r : Bool) → length head ≡ 6 → 6 + w ≤ length was → r ≡ leb (length head) (length was) → mid ≡ cond r (head ++ drop (length head) was) was → out ≡ take 6 mid ++ (form ++ drop (6 + w) mid) → out ≡ head ++ (form ++ drop (6 + w) was)

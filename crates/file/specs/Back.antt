@@ -1,9 +1,9 @@
--- Reading what was written gives it back: what a file's form is read as. Assumes nothing.
+-- Header and records, written in turn, make a file, and reading gives back what was written. Assumes nothing.
 use mathlib.Core.Path.{_≡_}
 use mathlib.Core.Bool.{false}
-use mathlib.Core.List.{List, _∷_, _++_}
+use mathlib.Core.List.{List, [], _∷_, _++_}
 use Prim.Native.Nat.{ℕ, _+_, _*_, _^_, _<_, _≤_}
-use lib.ListN.{length}
+use lib.ListN.{length, drop}
 use Rattle.std.specs.declared.option.Option.{Option}
 use Rattle.std.specs.declared.option.Option.the-variants.{None}
 use Rattle.std.specs.declared.result.Result.the-variants.{Ok}
@@ -14,7 +14,7 @@ use Rattle.file.specs.declared.letters.BoardKind.{BoardKind}
 use Rattle.file.specs.Letters.{letter-of, width-of}
 use Rattle.file.specs.Header.{header-of, any-header, other-cells, past-room, file-length}
 use Rattle.file.specs.Records.{Parts, parts-of, record-bytes}
-use Rattle.file.specs.Forms.{header-form, Line, record-form, file-form}
+use Rattle.file.specs.Forms.{header-form, Line, record-form, file-form, record-laid, written}
 
 -- a header that keeps the limits, with as many bytes after it as its count asks for
 pub record Sized (width cells count : ℕ) (rest : List ℕ) : Type 0 where
@@ -50,3 +50,9 @@ module _ {PS PC : Type 0} (K : Model PS PC) where
 
   abbrev pub Long : Type 0
   Long = (cells : ℕ) (rs : List (Line K)) → length (file-form K cells rs) ≡ file-length (K .width) (length rs)
+
+  -- the header and then record after record make the file
+  pub record Written-in-turn : Type 0 where
+    pub begins : (cells count : ℕ) (out : List ℕ) → header-form (K .letter) cells count ++ drop 8 out ≡ written K cells count [] out
+    pub goes-on : (cells count : ℕ) (rs : List (Line K)) (r : Line K) (out : List ℕ) → record-laid K (length rs + 1) r (written K cells count rs out) ≡ written K cells count (rs ++ (r ∷ [])) out
+    pub ends : (cells : ℕ) (rs : List (Line K)) (out : List ℕ) → written K cells (length rs) rs out ≡ file-form K cells rs ++ drop (file-length (K .width) (length rs)) out

@@ -1,9 +1,10 @@
 -- The bytes of headers, records and whole files. Assumes nothing.
 use mathlib.Core.List.{List, [], _∷_, _++_}
-use mathlib.Core.Bool.{Bool, _&&_}
-use Prim.Native.Nat.{ℕ, _/_, _%_}
-use lib.ListN.{length}
+use Prim.Native.Nat.{ℕ, _+_, _/_, _%_}
+use lib.ListN.{length, take, drop}
 use Rattle.kind.specs.Model.{Model}
+use Rattle.file.specs.Header.{file-length}
+use Rattle.file.specs.Records.{record-start}
 
 -- a number in two, or in four, bytes, least byte first
 abbrev pub le16-form : ℕ → List ℕ
@@ -32,3 +33,11 @@ module _ {PS PC : Type 0} (K : Model PS PC) where
 
   abbrev pub file-form : ℕ → List (Line K) → List ℕ
   file-form cells rs = header-form (K .letter) cells (length rs) ++ records-form rs
+
+  -- an area with record n of a file written to its place
+  abbrev pub record-laid : ℕ → Line K → List ℕ → List ℕ
+  record-laid n r out = take (record-start (K .width) n) out ++ (record-form r ++ drop (record-start (K .width) n + (6 + K .width)) out)
+
+  -- an area into which a header and then the first records of a file have been written
+  abbrev pub written : ℕ → ℕ → List (Line K) → List ℕ → List ℕ
+  written cells count rs out = header-form (K .letter) cells count ++ (records-form rs ++ drop (file-length (K .width) (length rs)) out)

@@ -5,11 +5,12 @@ ghost use mathlib.Core.List.{_++_};
 ghost use Prim.Native.Nat.{_+_, _≤_};
 ghost use lib.Dec.{ltb, leb};
 ghost use lib.ListN.{length, take, drop};
-ghost use Rattle.file.specs.Back.{Any-header-back, Header-back, Record-back, Change-back, Placed, Long};
-ghost use Rattle.file.specs.Forms.{le16-form, le32-form, header-form, record-form};
-use crate::header::HEADER;
+ghost use Rattle.file.specs.Back.{Any-header-back, Header-back, Record-back, Change-back, Placed, Long, Written-in-turn};
+ghost use Rattle.file.specs.Forms.{le16-form, le32-form, header-form, record-form, record-laid};
+ghost use Rattle.file.specs.Records.{record-start};
 use crate::header::VERSION;
 use crate::records::RECORD;
+use crate::records::start_of;
 use kind::Kind;
 
 // Writes `form` to the front of `out`, or nothing where it is too long.
@@ -77,7 +78,25 @@ pub fn write_record<K: Kind>(next: u32, cell: u16, change: &K::Change, out: &mut
     true
 }
 
-// Reading gives back what was written, by header and record by record.
+// Writes record `n` of a file to its place in `out`. False, and nothing written, where `out` ends before it does.
+pub fn write_record_at<K: Kind>(
+    n: u32,
+    next: u32,
+    cell: u16,
+    change: &K::Change,
+    out: &mut [u8],
+) -> bool
+    ensures done { λ r. ⌜ r ≡ leb (record-start (K·Kind .model .width) n + (6 + K·Kind .model .width)) (length (now (out .entry))) ⌝ }
+    ensures area { λ r. ⌜ now (out .exit) ≡ cond r (record-laid (K·Kind .model) n (record { next = next; cell = cell; change = K·Kind .model .change (now (change .entry)) }) (now (out .entry))) (now (out .entry)) ⌝ }
+{
+    let start = start_of(K::width(), n);
+    if start > out.len() {
+        return false;
+    }
+    write_record::<K>(next, cell, change, &mut out[start..])
+}
+
+// Header and records, written in turn, make a file, and reading gives back what was written.
 pub fn files_read_back<K: Kind>()
     ensures any_header { λ _. ⌜ Any-header-back ⌝ }
     ensures header { λ _. ⌜ Header-back (K·Kind .model) ⌝ }
@@ -85,5 +104,6 @@ pub fn files_read_back<K: Kind>()
     ensures change { λ _. ⌜ Change-back (K·Kind .model) ⌝ }
     ensures placed { λ _. ⌜ Placed (K·Kind .model) ⌝ }
     ensures long { λ _. ⌜ Long (K·Kind .model) ⌝ }
+    ensures in_turn { λ _. ⌜ Written-in-turn (K·Kind .model) ⌝ }
 {
 }
