@@ -4,3 +4,4 @@ pub mod Replay
 pub mod Tells
 pub mod Puts
 pub mod Backs
+pub mod There

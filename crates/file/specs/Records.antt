@@ -3,7 +3,7 @@ use mathlib.Core.List.{List}
 use mathlib.Core.Path.{_≡_}
 use mathlib.Core.Bool.{_||_}
 use denote.Ref.{RefT}
-use Prim.Native.Nat.{ℕ, _+_, _-_, _*_}
+use Prim.Native.Nat.{ℕ, _+_, _-_, _*_, _≤_}
 use lib.ListN.{length, take, drop}
 use lib.Dec.{ltb, eqb}
 use Rattle.std.specs.Results.{mapped}
@@ -14,7 +14,7 @@ use Rattle.kind.specs.Bytes.{le16, le32}
 use Rattle.file.specs.declared.faults.FileFault.{FileFault}
 use Rattle.file.specs.declared.faults.FileFault.the-variants.{Length}
 use Rattle.file.specs.declared.records.SavedRecord.{SavedRecord}
-use Rattle.file.specs.Header.{file-length}
+use Rattle.file.specs.Header.{Whole, count-at, file-length}
 
 -- where record n begins, from 1, and its bytes
 abbrev pub record-start : ℕ → ℕ → ℕ
@@ -53,3 +53,7 @@ record-at width f n = refuse-if (ltb 256 width || (eqb n 0 || ltb (length f) (fi
 pub record Lies (whole : RefT (List ℕ)) (at : ℕ) (part : RefT (List ℕ)) : Type 0 where
   pub block : part .ptr .0 ≡ whole .ptr .0
   pub offset : part .ptr .1 ≡ at + whole .ptr .1
+
+-- a file that is as long as its count says has each of its records
+abbrev pub Records-there : Type 0
+Records-there = (width : ℕ) (f : List ℕ) (n : ℕ) → Whole width f → 1 ≤ n → n ≤ count-at f → record-at width f n ≡ Ok (parts-of (record-bytes width f n))

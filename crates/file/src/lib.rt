@@ -7,3 +7,5 @@ pub mod letters;
 mod numbers;
 pub mod records;
 pub mod states;
+#[cfg(test)]
+mod tests;

@@ -5,7 +5,7 @@ ghost use lib.ListN.{length};
 ghost use Rattle.std.specs.Results.{mapped};
 ghost use Rattle.std.specs.Vec.{made};
 ghost use Rattle.file.specs.Header.{file-length};
-ghost use Rattle.file.specs.Records.{record-start, record-bytes, parts-of, parts-seen, record-at, Lies};
+ghost use Rattle.file.specs.Records.{record-start, record-bytes, parts-of, parts-seen, record-at, Records-there, Lies};
 use crate::faults::FileFault;
 use crate::header::HEADER;
 use crate::numbers::u16_at;
@@ -87,4 +87,10 @@ pub fn record_at(file: &[u8], width: usize, n: u32) -> Result<SavedRecord<'_>, F
         return Err(FileFault::Length);
     }
     Ok(saved_record(file, width, n))
+}
+
+// A file that is as long as its count says has each of its records.
+pub fn records_there()
+    ensures { λ _. ⌜ Records-there ⌝ }
+{
 }
