@@ -1,8 +1,8 @@
 -- What a file's form is read as. Assumes nothing.
 use mathlib.Core.Path.{_≡_, refl, sym, ap, _∙_}
-use mathlib.Core.Bool.{Bool, true, false, not, cond, _||_}
+use mathlib.Core.Bool.{true, false, not}
 use mathlib.Core.List.{List, [], _∷_, _++_, append-assoc, append-nil}
-use Prim.Native.Nat.{ℕ, zero, suc, _+_, _-_, _*_, _/_, _%_, _^_, _<_}
+use Prim.Native.Nat.{ℕ, suc, _+_, _-_, _*_, _/_, _%_, _^_, _<_}
 use native.Mathlib.Nat.{suc-mul, zero-mul, div-div-eq-div-mul, mod-add-div'}
 use native.Mathlib.Numerals.{add-one}
 use native.Mathlib.Omega.{arith}
@@ -11,21 +11,19 @@ use lib.ListN.{length, length-append, take, drop}
 use lib.Seq.{take-at, drop-at, drop-drop}
 use Rattle.std.proofs.shelf.Tests.{eq-eqb, ne-eqb, le-ltb}
 use Rattle.std.specs.declared.option.Option.{Option}
-use Rattle.std.specs.declared.option.Option.the-variants.{Some, None}
-use Rattle.std.specs.declared.result.Result.the-variants.{Ok, Err}
+use Rattle.std.specs.declared.option.Option.the-variants.{None}
+use Rattle.std.specs.declared.result.Result.the-variants.{Ok}
 use Rattle.kind.specs.Answers.{refuse-if}
 use Rattle.kind.specs.Bytes.{le32}
 use Rattle.kind.specs.Model.{Model, Laws}
 use Rattle.file.specs.declared.faults.FileFault.the-variants.{Short, Letter}
 use Rattle.file.specs.declared.header.Handed.{Handed}
-use Rattle.file.specs.declared.header.Header.{Header}
-use Rattle.file.specs.declared.letters.BoardKind.{BoardKind}
 use Rattle.file.specs.declared.letters.BoardKind.the-variants.{Block, Tally, BankMap}
 use Rattle.file.specs.Letters.{letter-of, width-of}
-use Rattle.file.specs.Header.{header-of, any-header, after-letter, other-cells, past-room, file-length, letter-at, version-at, cells-at, count-at}
-use Rattle.file.specs.Records.{Parts, parts-of, record-bytes, record-start}
-use Rattle.file.specs.Forms.{le16-form, le32-form, header-form, Line, record-form, records-form, file-form, record-laid, written}
-use Rattle.file.specs.Back.{Sized, Any-header-back, Header-back, Numbered, Record-back, Change-back, Placed, Long, Written-in-turn}
+use Rattle.file.specs.Header.{after-letter, other-cells, past-room, file-length, cells-at, count-at}
+use Rattle.file.specs.Records.{parts-of, record-bytes, record-start}
+use Rattle.file.specs.Forms.{le32-form, header-form, Line, record-form, records-form, file-form, record-laid, written}
+use Rattle.file.specs.Back.{Sized, Any-header-back, Header-back, Record-back, Change-back, Placed, Long, Written-in-turn}
 
 -- a number from its lowest byte and the rest, three times
 digits : (n q1 q2 q3 r0 r1 r2 : ℕ) → r0 + q1 * 256 ≡ n → r1 + q2 * 256 ≡ q1 → r2 + q3 * 256 ≡ q2 → r0 + r1 * 256 + r2 * 65536 + q3 * 16777216 ≡ n

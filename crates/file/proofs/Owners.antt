@@ -1,6 +1,6 @@
 -- What `change-for` tells of its record: whose it is, and what was read. Assumes nothing.
 use mathlib.Core.Path.{_≡_, refl}
-use mathlib.Core.Bool.{Bool, true, false, not}
+use mathlib.Core.Bool.{Bool, true, false, cond, not}
 use Prim.Native.Nat.{ℕ}
 use lib.Dec.{eqb, leb}
 use Rattle.std.specs.declared.option.Option.{Option}
@@ -14,7 +14,6 @@ use Rattle.file.specs.declared.faults.FileFault.{FileFault}
 use Rattle.file.specs.declared.faults.FileFault.the-variants.{Cell, Next, Change}
 use Rattle.file.specs.Records.{Parts}
 use Rattle.file.specs.States.{change-for}
-use mathlib.Core.Bool.{cond}
 
 module _ {C : Type 0} (n : ℕ) where
   abbrev read-with : Result C KindFault → Result (Option C) FileFault

@@ -37,6 +37,6 @@ module _ (xs form part ys : List ℕ) (at w : ℕ) (within : at ≤ length xs) (
 pub record-put : (head form was mid out : List ℕ) (w : ℕ) (r : Bool) → length head ≡ 6 → 6 + w ≤ length was → r ≡ leb (length head) (length was) → mid ≡ cond r (head ++ drop (length head) was) was → out ≡ take 6 mid ++ (form ++ drop (6 + w) mid) → out ≡ head ++ (form ++ drop (6 + w) was)
 record-put head form was mid out w r six fits er em eo =
     let em′ : mid ≡ head ++ drop 6 was =
-        em ∙ cond-true r (head ++ drop (length head) was) was (er ∙ le-leb (length head) (length was) (omega arith)) ∙ ap (λ n. head ++ drop n was) six in
+    em ∙ cond-true r (head ++ drop (length head) was) was (er ∙ le-leb (length head) (length was) (omega arith)) ∙ ap (λ n. head ++ drop n was) six in
     eo ∙ ap (λ m. take 6 m ++ (form ++ drop (6 + w) m)) em′ ∙ ap (λ h. h ++ (form ++ drop (6 + w) (head ++ drop 6 was))) (take-at head (drop 6 was) 6 six)
     ∙ ap (λ d. head ++ (form ++ d)) (drop-append-drop 6 was head (6 + w) (omega arith) six)

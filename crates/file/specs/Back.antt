@@ -5,15 +5,13 @@ use mathlib.Core.List.{List, [], _∷_, _++_}
 use Prim.Native.Nat.{ℕ, _+_, _*_, _^_, _<_, _≤_}
 use lib.ListN.{length, drop}
 use Rattle.std.specs.declared.option.Option.{Option}
-use Rattle.std.specs.declared.option.Option.the-variants.{None}
 use Rattle.std.specs.declared.result.Result.the-variants.{Ok}
 use Rattle.kind.specs.Model.{Model}
 use Rattle.file.specs.declared.header.Handed.{Handed}
-use Rattle.file.specs.declared.header.Header.{Header}
 use Rattle.file.specs.declared.letters.BoardKind.{BoardKind}
 use Rattle.file.specs.Letters.{letter-of, width-of}
 use Rattle.file.specs.Header.{header-of, any-header, other-cells, past-room, file-length}
-use Rattle.file.specs.Records.{Parts, parts-of, record-bytes}
+use Rattle.file.specs.Records.{parts-of, record-bytes}
 use Rattle.file.specs.Forms.{header-form, Line, record-form, file-form, record-laid, written}
 
 -- a header that keeps the limits, with as many bytes after it as its count asks for

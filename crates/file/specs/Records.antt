@@ -6,9 +6,8 @@ use denote.Ref.{RefT}
 use Prim.Native.Nat.{ℕ, _+_, _-_, _*_, _≤_}
 use lib.ListN.{length, take, drop}
 use lib.Dec.{ltb, eqb}
-use Rattle.std.specs.Results.{mapped}
 use Rattle.std.specs.declared.result.Result.{Result}
-use Rattle.std.specs.declared.result.Result.the-variants.{Ok, Err}
+use Rattle.std.specs.declared.result.Result.the-variants.{Ok}
 use Rattle.kind.specs.Answers.{refuse-if}
 use Rattle.kind.specs.Bytes.{le16, le32}
 use Rattle.file.specs.declared.faults.FileFault.{FileFault}

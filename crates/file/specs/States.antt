@@ -6,7 +6,7 @@ use lib.Dec.{leb, eqb}
 use Rattle.std.specs.declared.option.Option.{Option}
 use Rattle.std.specs.declared.option.Option.the-variants.{Some, None}
 use Rattle.std.specs.declared.result.Result.{Result}
-use Rattle.std.specs.declared.result.Result.the-variants.{Ok, Err}
+use Rattle.std.specs.declared.result.Result.the-variants.{Ok}
 use Rattle.kind.specs.Answers.{refuse-if, andThen, refused-as}
 use Rattle.kind.specs.Model.{Model}
 use Rattle.file.specs.declared.faults.FileFault.{FileFault}

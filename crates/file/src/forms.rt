@@ -105,5 +105,4 @@ pub fn files_read_back<K: Kind>()
     ensures placed { λ _. ⌜ Placed (K·Kind .model) ⌝ }
     ensures long { λ _. ⌜ Long (K·Kind .model) ⌝ }
     ensures in_turn { λ _. ⌜ Written-in-turn (K·Kind .model) ⌝ }
-{
-}
+{}

@@ -1,6 +1,6 @@
 // The header of a file.
 ghost use mathlib.Core.Path.{_≡_};
-ghost use Prim.Native.Nat.{ℕ, _+_, _*_, _≤_};
+ghost use Prim.Native.Nat.{_+_, _*_, _≤_};
 ghost use lib.ListN.{length};
 ghost use Rattle.std.specs.Vec.{made};
 ghost use Rattle.std.specs.declared.option.Option.the-variants.{Some, None};
@@ -128,5 +128,4 @@ pub fn any_header(file: &[u8]) -> Result<Header, FileFault>
 // A file is read by its letter as it is by that letter's kind.
 pub fn headers_agree()
     ensures { λ _. ⌜ Headers-agree ⌝ }
-{
-}
+{}

@@ -72,5 +72,4 @@ pub fn nth_answer(file: &[u8], n: u32) -> Result<Item<'_>, FileFault>
 pub fn items_stand()
     ensures again { λ _. ⌜ Again ⌝ }
     ensures in_turn { λ _. ⌜ In-turn ⌝ }
-{
-}
+{}

@@ -54,5 +54,4 @@ pub(crate) fn width_under(letter: char) -> usize
 // A letter is known just where it is that of a kind on board.
 pub fn letters_stand()
     ensures { λ _. ⌜ Letters-known ⌝ }
-{
-}
+{}

@@ -1,6 +1,6 @@
 // The records of a file.
 ghost use mathlib.Core.Path.{_≡_};
-ghost use Prim.Native.Nat.{ℕ, _+_, _-_, _*_, _≤_};
+ghost use Prim.Native.Nat.{_+_, _-_, _*_, _≤_};
 ghost use lib.ListN.{length};
 ghost use Rattle.std.specs.Results.{mapped};
 ghost use Rattle.std.specs.Vec.{made};
@@ -92,5 +92,4 @@ pub fn record_at(file: &[u8], width: usize, n: u32) -> Result<SavedRecord<'_>, F
 // A file that is as long as its count says has each of its records.
 pub fn records_there()
     ensures { λ _. ⌜ Records-there ⌝ }
-{
-}
+{}

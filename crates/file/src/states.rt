@@ -84,5 +84,4 @@ pub fn state_after<K: Kind>(file: &[u8], cell: u32, moment: u32) -> Result<K::St
 pub fn states_stand<K: Kind>()
     ensures recalls { λ _. ⌜ Recalls (K·Kind .model) ⌝ }
     ensures lasts { λ _. ⌜ Lasts (K·Kind .model) ⌝ }
-{
-}
+{}

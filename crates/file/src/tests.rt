@@ -17,7 +17,33 @@ use std::test::*;
 
 // Two cells, and two records: cell 0 by 5, cell 1 by -2.
 const SAVED: [u8; 28] = [
-    0x54, 1, 2, 0, 2, 0, 0, 0, 0, 0, 0, 0, 0, 0, 5, 0, 0, 0, 0, 0, 0, 0, 1, 0, 0xfe, 0xff, 0xff,
+    0x54,
+    1,
+    2,
+    0,
+    2,
+    0,
+    0,
+    0,
+    0,
+    0,
+    0,
+    0,
+    0,
+    0,
+    5,
+    0,
+    0,
+    0,
+    0,
+    0,
+    0,
+    0,
+    1,
+    0,
+    0xfe,
+    0xff,
+    0xff,
     0xff,
 ];
 
@@ -68,9 +94,18 @@ fn refuses_headers_in_order() -> Result<(), Fail> {
 
 #[test]
 fn refuses_what_does_not_go_into_a_load() -> Result<(), Fail> {
-    check_eq(refusal(load_header::<Tally>(&SAVED, Handed { cells: 2, room: 2 })), 0)?;
-    check_eq(refusal(load_header::<Tally>(&SAVED, Handed { cells: 3, room: 2 })), 8)?;
-    check_eq(refusal(load_header::<Tally>(&SAVED, Handed { cells: 2, room: 1 })), 9)
+    check_eq(
+        refusal(load_header::<Tally>(&SAVED, Handed { cells: 2, room: 2 })),
+        0,
+    )?;
+    check_eq(
+        refusal(load_header::<Tally>(&SAVED, Handed { cells: 3, room: 2 })),
+        8,
+    )?;
+    check_eq(
+        refusal(load_header::<Tally>(&SAVED, Handed { cells: 2, room: 1 })),
+        9,
+    )
 }
 
 #[test]

@@ -1,9 +1,7 @@
-use mathlib.Core.Path.{_≡_, ap, _∙_}
-use mathlib.Core.Bool.{true, cond}
-use mathlib.Core.List.{_++_}
+use mathlib.Core.Path.{_∙_}
 use Prim.Native.Nat.{_+_, _≤_}
 use native.Mathlib.Omega.{arith}
-use lib.ListN.{length, take, drop}
+use lib.ListN.{length}
 use borrow.Rule.Slice.PartAt.{part-to-end}
 use Rattle.std.proofs.shelf.Tests.{le-leb, cond-true}
 use Rattle.file.proofs.Puts.{part-put, part-fits}
