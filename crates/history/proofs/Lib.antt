@@ -1,5 +1,10 @@
 pub mod Canonical
+pub mod Checked
 pub mod Entered
+pub mod Nth
 pub mod Promised
+pub mod Replayed
+pub mod Reverted
+pub mod Rolled
 pub mod Spanned
 pub mod Written
