@@ -109,9 +109,11 @@ module _ {PS PC : Type 0} (K : Model PS PC) (L : Laws K) {h : History (K .State)
       each-ok (head-right K (newest (v .count)) (v .heads)) (length (v .cells))
       (λ c l.
       let in′ : c < h .cells = omega (arith, C .all-cells) in
-      let same : getD (v .heads) c 0 ≡ getD (newest (v .count)) c 0 = C .heads c in′ ∙ sym (newest-all c in′) in
-      (tt, cond-false (not (eqb (getD (v .heads) c 0) (getD (newest (v .count)) c 0))) (Err (WrongHead c)) (Ok tt)
-      (not-from-true (eqb (getD (v .heads) c 0) (getD (newest (v .count)) c 0)) (eq-eqb (getD (v .heads) c 0) (getD (newest (v .count)) c 0) same))))
+      let same : getD (v .heads) c 0 ≡ getD (newest (v .count)) c 0 = C .heads c in′ ∙ sym (newest-all c in′) in (
+        tt,
+        cond-false (not (eqb (getD (v .heads) c 0) (getD (newest (v .count)) c 0))) (Err (WrongHead c)) (Ok tt)
+            (not-from-true (eqb (getD (v .heads) c 0) (getD (newest (v .count)) c 0)) (eq-eqb (getD (v .heads) c 0) (getD (newest (v .count)) c 0) same)),
+      ))
 
   cell-fine : (c : ℕ) → c < h .cells → cell-right K v c ≡ Ok tt
   cell-fine c in′ =

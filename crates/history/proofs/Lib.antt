@@ -1,6 +1,7 @@
 pub mod Canonical
 pub mod Checked
 pub mod Entered
+pub mod Figures
 pub mod Nth
 pub mod Promised
 pub mod Replayed

@@ -1,9 +1,19 @@
-// The promises.
+// What is promised of every volume: each statement stands on the contract of a function, and specs/ has its text.
+
 ghost use Rattle.history.specs.Promises.{Promises};
+ghost use Rattle.history.specs.Worked.{Worked};
 use kind::Kind;
 
+// After a format that is accepted, every sequence of calls, refused ones included, leaves a volume whose answers are those of the plain history.
 pub fn promises_stand<K: Kind>() -> u8
     ensures { λ _. ⌜ Promises (K·Kind .model) ⌝ }
+{
+    0
+}
+
+// The worked tally volume.
+pub fn worked_volume() -> u8
+    ensures { λ _. ⌜ Worked ⌝ }
 {
     0
 }
