@@ -51,7 +51,7 @@ module _ {PS PC : Type 0} (K : Model PS PC) (L : Laws K) {h : History (K .State)
   abbrev es : List (Entry (K .State))
   es = h .entries
 
-  abbrev newest : ℕ → List ℕ
+  abbrev pub newest : ℕ → List ℕ
   newest n = newest-to K (length (v .cells)) (v .records) n
 
   newest-length : (n : ℕ) → length (newest n) ≡ h .cells
@@ -82,24 +82,31 @@ module _ {PS PC : Type 0} (K : Model PS PC) (L : Laws K) {h : History (K .State)
       ]
 
   -- every record, head and cell is right
+  abbrev pub numbers : ℕ → Record PC
+  numbers i = numbered K (v .records) (i + 1)
+
+  pub record-plan : (i : ℕ) → i < count h → planned K (v .records) (i + 1) (getD (newest i) (numbers i .cell) 0) (numbers i .cell) (numbers i .change) ≡ Ok (numbers i)
+  record-plan i l =
+      let N : Nth K L C i = nth K L C i l in
+      ap (λ c. planned K (v .records) (i + 1) (getD (newest i) c 0) c (numbers i .change)) (N .cell)
+      ∙ ap (λ x. planned K (v .records) (i + 1) x (N .entry .cell) (numbers i .change)) (newest-at i (omega arith) (N .entry .cell) (N .owned)) ∙ N .planned-so
+
+  pub record-low : (i : ℕ) → i < count h → numbers i .cell < length (v .cells)
+  record-low i l = let N : Nth K L C i = nth K L C i l in omega (arith, N .cell, N .owned, C .all-cells)
+
   record-fine : (i : ℕ) → i < count h → record-right K (length (v .cells)) (v .records) i ≡ Ok tt
   record-fine i l =
-      let N : Nth K L C i = nth K L C i l in
-      let r : Record PC = numbered K (v .records) (i + 1) in
-      let low : r .cell < length (v .cells) = omega (arith, N .cell, N .owned, C .all-cells) in
-      let plan : planned K (v .records) (i + 1) (getD (newest i) (r .cell) 0) (r .cell) (r .change) ≡ Ok r =
-      ap (λ c. planned K (v .records) (i + 1) (getD (newest i) c 0) c (r .change)) (N .cell)
-      ∙ ap (λ x. planned K (v .records) (i + 1) x (N .entry .cell) (r .change)) (newest-at i (omega arith) (N .entry .cell) (N .owned)) ∙ N .planned-so in
+      let r : Record PC = numbers i in
       let right : right-record K (length (v .cells)) (v .records) (newest i) (i + 1) r ≡ true =
       and-from (ltb (r .cell) (length (v .cells))) (as-planned K r (planned K (v .records) (i + 1) (getD (newest i) (r .cell) 0) (r .cell) (r .change)))
-      (lt-ltb (r .cell) (length (v .cells)) low) (ap (as-planned K r) plan ∙ as-itself K L r) in
+      (lt-ltb (r .cell) (length (v .cells)) (record-low i l)) (ap (as-planned K r) (record-plan i l) ∙ as-itself K L r) in
       cond-false (not (right-record K (length (v .cells)) (v .records) (newest i) (i + 1) r)) (Err (WrongRecord (i + 1))) (Ok tt)
       (not-from-true (right-record K (length (v .cells)) (v .records) (newest i) (i + 1) r) right)
 
   records-fine : each-below (record-right K (length (v .cells)) (v .records)) (v .count) ≡ Ok tt
   records-fine = each-ok (record-right K (length (v .cells)) (v .records)) (v .count) (λ i l. (tt, record-fine i (omega (arith, C .counts))))
 
-  newest-all : (c : ℕ) → c < h .cells → getD (newest (v .count)) c 0 ≡ headOf (writes K es) c
+  pub newest-all : (c : ℕ) → c < h .cells → getD (newest (v .count)) c 0 ≡ headOf (writes K es) c
   newest-all c in′ =
       ap (λ n. getD (newest n) c 0) (C .counts) ∙ newest-at (count h) (omega arith) c in′
       ∙ ap (λ xs. headOf (writes K xs) c) (take-all (count h) es (omega arith))
@@ -115,18 +122,21 @@ module _ {PS PC : Type 0} (K : Model PS PC) (L : Laws K) {h : History (K .State)
             (not-from-true (eqb (getD (v .heads) c 0) (getD (newest (v .count)) c 0)) (eq-eqb (getD (v .heads) c 0) (getD (newest (v .count)) c 0) same)),
       ))
 
-  cell-fine : (c : ℕ) → c < h .cells → cell-right K v c ≡ Ok tt
-  cell-fine c in′ =
-      let s : PS = getD (v .cells) c (origin K) in
+  pub cell-made : (c : ℕ) (in′ : c < h .cells) → K .state (acted K (got K L C c in′ 0 (v .count) .change) (origin K)) ≡ K .state (getD (v .cells) c (origin K))
+  cell-made c in′ =
       let f : Stretch PC = got K L C c in′ 0 (v .count) in
-      let made : K .state (acted K (f .change) (origin K)) ≡ K .state s =
       L .state-plain (K .act (K .change (f .change)) (K .state (origin K)))
       ∙ ap (K .act (K .change (f .change))) (L .state-plain (K .origin))
       ∙ ap (λ g. K .act g (K .origin)) (got-is K L C c in′ 0 (v .count) ∙ onward-diff K L C c 0 (v .count))
       ∙ L .diff-acts (K .origin) (stood K h c (v .count))
-      ∙ ap (stood K h c) (C .counts) ∙ ap (latest (K .origin) c) (take-all (count h) es (omega arith)) ∙ sym (C .states c in′) in
+      ∙ ap (stood K h c) (C .counts) ∙ ap (latest (K .origin) c) (take-all (count h) es (omega arith)) ∙ sym (C .states c in′)
+
+  cell-fine : (c : ℕ) → c < h .cells → cell-right K v c ≡ Ok tt
+  cell-fine c in′ =
+      let s : PS = getD (v .cells) c (origin K) in
+      let f : Stretch PC = got K L C c in′ 0 (v .count) in
       let right : as-changed K s (spanned K (v .records) (v .count) (getD (v .heads) c 0) c 0 (v .count)) ≡ true =
-      ap (as-changed K s) (spans K L C c in′ 0 (v .count)) ∙ L .state-exact (K .state s) (K .state (acted K (f .change) (origin K))) .1 (sym made) in
+      ap (as-changed K s) (spans K L C c in′ 0 (v .count)) ∙ L .state-exact (K .state s) (K .state (acted K (f .change) (origin K))) .1 (sym (cell-made c in′)) in
       cond-false (not (as-changed K s (spanned K (v .records) (v .count) (getD (v .heads) c 0) c 0 (v .count)))) (Err (WrongCell c)) (Ok tt)
       (not-from-true (as-changed K s (spanned K (v .records) (v .count) (getD (v .heads) c 0) c 0 (v .count))) right)
 

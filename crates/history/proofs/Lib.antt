@@ -1,3 +1,4 @@
+pub mod Alikes
 pub mod Canonical
 pub mod Checked
 pub mod Entered

@@ -42,13 +42,13 @@ module _ {PS PC : Type 0} (K : Model PS PC) where
       ]
 
   module _ (L : Laws K) {h : History (K .State)} {v : Memory PS PC} (C : Canonical K h v) (c : ℕ) (s : PS) where
-    abbrev es : List (Entry (K .State))
+    abbrev pub es : List (Entry (K .State))
     es = h .entries
 
-    abbrev ws : List (Write PC)
+    abbrev pub ws : List (Write PC)
     ws = writes K (h .entries)
 
-    abbrev f : PC
+    abbrev pub f : PC
     f = difference K (getD (v .cells) c (origin K)) s
 
     -- the tests of a write, one after the other
@@ -76,10 +76,10 @@ module _ {PS PC : Type 0} (K : Model PS PC) where
       few = omega (arith, size, C .fits, C .all-records, C .sizes .few-records)
 
       -- the record that is logged
-      abbrev r : Record PC
+      abbrev pub r : Record PC
       r = never-refused K L ws (v .records) (C .logs) few c f .0
 
-      plans : planned K (v .records) (v .count + 1) (getD (v .heads) c 0) c f ≡ Ok r
+      pub plans : planned K (v .records) (v .count + 1) (getD (v .heads) c 0) c f ≡ Ok r
       plans =
           ap (λ n. planned K (v .records) (n + 1) (getD (v .heads) c 0) c f) (C .counts ∙ sym size)
           ∙ ap (λ n. planned K (v .records) (length ws + 1) n c f) (C .heads c in′)
