@@ -115,7 +115,12 @@ module _ {PS PC : Type 0} (K : Model PS PC) (L : Laws K) where
               (subst (λ k. Related (Alike K) (joined K c next (numbered K rs next) (numbered K rs x) f) (refuse-if (ltb 65535 k) (Length c next) (Ok (join K c next (numbered K ss next) (numbered K ss x) g)))) wide
               (related-cond (Alike K) (ltb 65535 (1 + numbered K rs next .length + numbered K rs x .length)) (Err (Length c next)) (Ok (join K c next (numbered K rs next) (numbered K rs x) f)) (Err (Length c next)) (Ok (join K c next (numbered K ss next) (numbered K ss x) g)) refl
               (record {
-                cell = refl; next = refl; skip = s .skip; length = wide; foot = s .foot; change = q;
+                cell = refl;
+                next = refl;
+                skip = s .skip;
+                length = wide;
+                foot = s .foot;
+                change = q;
                 fold = followed-alike (followed K (numbered K rs x .fold) (numbered K rs next .fold)) (followed K (numbered K ss x .fold) (numbered K ss next .fold)) f g
                     (followed-alike (numbered K rs x .fold) (numbered K ss x .fold) (numbered K rs next .fold) (numbered K ss next .fold) (s .fold) (p .fold)) q;
               }))) one)))

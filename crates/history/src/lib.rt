@@ -1,6 +1,7 @@
 // What is promised of every volume: each statement stands on the contract of a function, and specs/ has its text.
 
 ghost use Rattle.history.specs.Promises.{Promises};
+ghost use Rattle.history.specs.Soundness.{Checks-exactly};
 ghost use Rattle.history.specs.Worked.{Worked};
 use kind::Kind;
 
@@ -14,6 +15,13 @@ pub fn promises_stand<K: Kind>() -> u8
 // The worked tally volume.
 pub fn worked_volume() -> u8
     ensures { λ _. ⌜ Worked ⌝ }
+{
+    0
+}
+
+// A check answers yes, on any memory, exactly where some writes after a format leave what counts the same.
+pub fn checks_exactly<K: Kind>() -> u8
+    ensures { λ _. ⌜ Checks-exactly (K·Kind .model) ⌝ }
 {
     0
 }
