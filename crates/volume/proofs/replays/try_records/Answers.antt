@@ -1,25 +1,17 @@
-use mathlib.Core.Path.{_≡_, sym, ap, _∙_}
-use native.Mathlib.Numerals.{add-one}
 use native.Mathlib.Omega.{arith}
-use Rattle.kind.specs.Answers.{each-below}
-use Rattle.kind.proofs.Tried.{each-more, each-stops}
-use Rattle.journal.proofs.Walks.{exit}
 use Rattle.volume.specs.Replays.{cell-known}
+use Rattle.volume.proofs.Tries.{tries-stop, tries-more, tries-all}
 use Rattle.volume.proofs.replays.try_records.Needs as need
 
 pub returns-in-Break-try-record : need.returns-in-Break-try-record
 returns-in-Break-try-record g c =
-    let f = cell-known (g .K·Kind .model) (c .args .cells) (c .args .records .now) in
-    exit (c .from-residual .result) _ (c .from-residual .ensures .1)
-    ∙ sym (each-stops f (c .args .moment) (c .loop-i .i) _ (c .loop-i-test .taken) (c .loop-i .inv) (sym (c .try-record .ensures) ∙ c .in-Break-try-record .was tt))
+    tries-stop (cell-known (g .K·Kind .model) (c .args .cells) (c .args .records .now)) (c .loop-i .i) (c .try-record .result) (c .loop-i .inv) (c .try-record .ensures)
+    (c .args .moment) _ (c .from-residual .result) (c .loop-i-test .taken) (c .in-Break-try-record .was tt) (c .from-residual .ensures .1)
 
 pub loop-i-again : need.loop-i-again
 loop-i-again g c =
-    let f = cell-known (g .K·Kind .model) (c .args .cells) (c .args .records .now) in
-    ap (each-below f) (add-one (c .loop-i .i)) ∙ each-more f (c .loop-i .i) _ (c .loop-i .inv) (sym (c .try-record .ensures) ∙ c .in-Continue-try-record .was tt)
+    tries-more (cell-known (g .K·Kind .model) (c .args .cells) (c .args .records .now)) (c .loop-i .i) (c .try-record .result) (c .loop-i .inv) (c .try-record .ensures)
+    _ (c .in-Continue-try-record .was tt)
 
 pub returns : need.returns
-returns g c =
-    let f = cell-known (g .K·Kind .model) (c .args .cells) (c .args .records .now) in
-    let all : c .loop-i .i ≡ c .args .moment = omega arith in
-    sym (c .loop-i .inv) ∙ ap (each-below f) all
+returns g c = tries-all (cell-known (g .K·Kind .model) (c .args .cells) (c .args .records .now)) (c .loop-i .i) (c .args .moment) (c .loop-i .inv) (omega arith) (c .loop-i-test .left)
