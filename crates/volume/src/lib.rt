@@ -2,6 +2,8 @@
 mod calls;
 mod parts;
 pub mod refusal;
+mod replays;
+mod rolls;
 mod sizes;
 
 ghost use mathlib.Core.Path.{_≡_};
