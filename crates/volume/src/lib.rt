@@ -2,6 +2,7 @@
 mod calls;
 mod parts;
 pub mod refusal;
+mod reverts;
 mod sizes;
 
 ghost use mathlib.Core.Path.{_≡_};
