@@ -1,5 +1,6 @@
 // A volume: cells with the log of their changes, in memory that the caller lends.
 mod calls;
+mod checks;
 mod parts;
 pub mod refusal;
 mod reverts;

@@ -20,10 +20,9 @@ pub loop-i-again : need.loop-i-again
 loop-i-again g c =
     let K = g .K·Kind .model in
     let from = c .args .from in
-    let to = c .args .to in
-    (
+    let to = c .args .to in (
       c .restore .ensures .after ∙ ap (λ m. put-back K from to m (c .loop-i .i)) (c .loop-i .inv .0)
-      ∙ ap (put-all-back K from to (held (c .args .self .now))) (sym (add-one (c .loop-i .i))),
+          ∙ ap (put-all-back K from to (held (c .args .self .now))) (sym (add-one (c .loop-i .i))),
       c .restore .ensures .cells-same ∙ c .loop-i .inv .1,
       c .restore .ensures .heads-same ∙ c .loop-i .inv .2,
       c .restore .ensures .records-same ∙ c .loop-i .inv .3,
