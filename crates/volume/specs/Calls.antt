@@ -40,11 +40,15 @@ module _ {PS PC : Type 0} (K : Model PS PC) where
       refuse-if (leb (length rs) count) Full (
       Ok (set rs count r)))
 
-  -- format: every cell is the origin, every head and the count are zero; the records are untouched
+  -- every cell is the origin, every head and the count are zero; the records are untouched
+  abbrev pub emptied : Memory PS PC → Memory PS PC
+  emptied m = memory (replicate (length (m .cells)) origin) (replicate (length (m .heads)) 0) (m .records) 0
+
+  -- format
   abbrev pub cleared : Memory PS PC → Result (Memory PS PC) Refusal
   cleared m =
       andThen (sized (length (m .cells)) (length (m .heads)) (length (m .records))) (λ _.
-      Ok (memory (replicate (length (m .cells)) origin) (replicate (length (m .heads)) 0) (m .records) 0))
+      Ok (emptied m))
 
   -- write: the difference from the old state is logged, and the new one put in its place
   abbrev pub wrote : Memory PS PC → ℕ → PS → Result (Memory PS PC) Refusal

@@ -1,8 +1,12 @@
+pub mod Areas
 pub mod Calls
 pub mod Checks
+pub mod Loads
 pub mod Memory
 pub mod Numbers
+pub mod Recalls
 pub mod Replays
 pub mod Reverts
 pub mod Rolls
+pub mod Saves
 pub mod Sizes

@@ -4,8 +4,8 @@ mod checks;
 mod parts;
 pub mod refusal;
 mod replays;
-mod rolls;
 mod reverts;
+mod rolls;
 mod sizes;
 
 ghost use mathlib.Core.Path.{_≡_};

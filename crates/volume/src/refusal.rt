@@ -1,7 +1,8 @@
 // Why a call is refused.
 ghost use mathlib.Core.Path.{_≡_};
 ghost use Rattle.volume.specs.Numbers.{refusal-number};
-ghost use Rattle.volume.specs.declared.refusal.Refusal.the-variants.{Ladder};
+ghost use Rattle.volume.specs.declared.refusal.Refusal.the-variants.{File, Ladder};
+use file::faults::FileFault;
 use journal::faults::LadderFault;
 
 // What a check found first: the lowest wrong record, else the lowest cell with a wrong head, else the lowest wrong cell.
@@ -23,6 +24,10 @@ pub enum Refusal {
     Capacity,
     // 4: the count is above the log's capacity
     Count,
+    // 5 to 10, 15 to 17: what is wrong with a file
+    File(FileFault),
+    // 11: the area to be written is shorter than what goes into it
+    Area,
     // 12: the image is not as many states as there are cells
     Image,
     // 13: there is no such cell
@@ -45,6 +50,14 @@ pub impl From<LadderFault> for Refusal as RefusalFromLadder {
     }
 }
 
+pub impl From<FileFault> for Refusal as RefusalFromFile {
+    ghost converts = { λ f r. r ≡ File f };
+
+    fn from(fault: FileFault) -> Refusal {
+        Refusal::File(fault)
+    }
+}
+
 impl Refusal {
     pub fn number(self) -> u8
         ensures { λ r. ⌜ r ≡ refusal-number self ⌝ }
@@ -54,6 +67,8 @@ impl Refusal {
             Refusal::Heads => 2,
             Refusal::Capacity => 3,
             Refusal::Count => 4,
+            Refusal::File(fault) => fault.number(),
+            Refusal::Area => 11,
             Refusal::Image => 12,
             Refusal::Cell => 13,
             Refusal::Moment => 14,

@@ -3,7 +3,7 @@ use mathlib.Core.Path.{_≡_, sym, ap, _∙_}
 use mathlib.Core.Bool.{true}
 use Prim.Native.Nat.{ℕ, _<_}
 use native.Mathlib.Omega.{arith}
-use lib.Dec.{lit≤}
+use lib.Dec.{lit≤, lit<}
 use lib.ListN.{length, getD}
 use Rattle.std.proofs.shelf.Counted.{getD-counting}
 use Rattle.std.proofs.shelf.Lists.{ext-getD}
@@ -80,6 +80,7 @@ pub bank-map-laws : Laws bank-map
 bank-map-laws = record {
   state-plain = taken-self in-order;
   change-plain = taken-self in-order;
+  letter-low = lit< tt;
   width-low = lit≤ tt;
   width-high = lit≤ tt;
   unit-acts = followed-in-order;

@@ -1,7 +1,7 @@
 -- The block keeps the laws. Assumes nothing.
 use mathlib.Core.Path.{_≡_, sym, ap, _∙_}
 use mathlib.Core.Bool.{true}
-use lib.Dec.{lit≤}
+use lib.Dec.{lit≤, lit<}
 use lib.ListN.{length}
 use Rattle.kind.specs.Blocks.{Block, zeros, xored, block}
 use Rattle.kind.specs.Bytes.{bytes?}
@@ -31,6 +31,7 @@ pub block-laws : Laws block
 block-laws = record {
   state-plain = taken-self zeros;
   change-plain = taken-self zeros;
+  letter-low = lit< tt;
   width-low = lit≤ tt;
   width-high = lit≤ tt;
   unit-acts = xored-zeros;

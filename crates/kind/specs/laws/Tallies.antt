@@ -6,7 +6,7 @@ use mathlib.Core.HLevel.{isProp→PathP}
 use Prim.Native.Nat.{ℕ, _%_, _^_, _<_}
 use native.Mathlib.Omega.{arith}
 use native.Mathlib.Bridge.{le-prop}
-use lib.Dec.{ltb, eqb, lit≤}
+use lib.Dec.{ltb, eqb, lit≤, lit<}
 use lib.ListN.{length, getD}
 use mir.Syntax.{w32}
 use mir.Val.{ofZ, toZ}
@@ -69,6 +69,7 @@ pub tally-laws : Laws tally
 tally-laws = record {
   state-plain = word-plain;
   change-plain = word-plain;
+  letter-low = lit< tt;
   width-low = lit≤ tt;
   width-high = lit≤ tt;
   unit-acts = λ s. word-path _ _ (omega arith);
