@@ -15,8 +15,8 @@ use Rattle.kind.specs.Answers.{andThen, refuse-if}
 use Rattle.kind.specs.Model.{Model, Laws}
 use Rattle.logs.specs.Theorems.{Logs}
 use Rattle.logs.specs.Writes.{headOf}
-use Rattle.volume.specs.Calls.{origin}
-use Rattle.volume.specs.Memory.{Memory, memory}
+use Rattle.volume.specs.Calls.{origin, emptied}
+use Rattle.volume.specs.Memory.{Memory}
 use Rattle.volume.specs.Sizes.{sized, sound}
 use Rattle.volume.specs.declared.refusal.Refusal.{Refusal}
 use Rattle.volume.specs.declared.refusal.Refusal.the-variants.{Cells, Heads, Capacity, Count}
@@ -97,11 +97,8 @@ module _ {PS PC : Type 0} (K : Model PS PC) where
   sound-is {h} {v} C = sound-ok (C .sizes) (omega (arith, C .counts, C .fits, C .all-records))
 
   -- what a format leaves
-  abbrev pub blanked : Memory PS PC → Memory PS PC
-  blanked m = memory (replicate (length (m .cells)) (origin K)) (replicate (length (m .heads)) 0) (m .records) 0
-
   pub blank-canonical : Laws K → (m : Memory PS PC) → Sizes (length (m .cells)) (length (m .heads)) (length (m .records)) →
-      Canonical (fresh (length (m .cells)) (length (m .records))) (blanked m)
+      Canonical (fresh (length (m .cells)) (length (m .records))) (emptied K m)
   blank-canonical L m z =
       let n : ℕ = length (m .cells) in
       let same : length (replicate n (origin K)) ≡ n = length-replicate n (origin K) in

@@ -44,6 +44,7 @@ module _ {PS PC : Type 0} (K : Model PS PC) (L : Laws K) {h : History (K .State)
     pub owned : entry .cell < h .cells
     pub cell : numbered K (v .records) (n + 1) .cell ≡ entry .cell
     pub change : K .change (numbered K (v .records) (n + 1) .change) ≡ K .diff (stood K h (entry .cell) n) (entry .state)
+    pub next-is : numbered K (v .records) (n + 1) .next ≡ headOf (writes K (take n (h .entries))) (entry .cell)
     pub planned-so :
         planned K (v .records) (n + 1) (headOf (writes K (take n (h .entries))) (entry .cell)) (entry .cell) (numbered K (v .records) (n + 1) .change)
         ≡ Ok (numbered K (v .records) (n + 1))
@@ -68,6 +69,7 @@ module _ {PS PC : Type 0} (K : Model PS PC) (L : Laws K) {h : History (K .State)
         owned = owned-at (h .cells) us e vs (subst (Owned (h .cells)) (A .whole) (C .owned));
         cell = cell;
         change = ap (K .change) change ∙ L .change-plain (K .diff (latest (K .origin) (e .cell) us) (e .state));
+        next-is = ap (λ k. numbered K (v .records) (k + 1) .next) (sym size) ∙ R .3;
         planned-so =
             ap (λ k. planned K (v .records) (k + 1) (headOf (writes K us) (e .cell)) (e .cell) (numbered K (v .records) (n + 1) .change)) (sym size)
             ∙ ap (λ f. planned K (v .records) (length (writes K us) + 1) (headOf (writes K us) (e .cell)) (e .cell) f) change

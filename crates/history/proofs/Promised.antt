@@ -14,13 +14,13 @@ use Rattle.std.specs.Iters.{counting}
 use Rattle.std.specs.declared.result.Result.the-variants.{Ok, Err}
 use Rattle.kind.specs.Answers.{told, kept, refuse-if}
 use Rattle.kind.specs.Model.{Model, Laws}
-use Rattle.volume.specs.Calls.{origin}
+use Rattle.volume.specs.Calls.{origin, emptied}
 use Rattle.volume.specs.Memory.{Memory}
 use Rattle.volume.specs.declared.refusal.Refusal.the-variants.{Cell, Moment, Full}
 use Rattle.history.specs.Calls.{Call, format, write, read, span, roll, replay, revert, check, Reply, counted, state, change, refused, reply, run, run-all, fed, fed-all, replied, predicted}
 use Rattle.history.specs.History.{History, count, appended, last-entry, latest, stood, image}
 use Rattle.history.specs.Promises.{fresh, Stands, Kept-promises, Promises}
-use Rattle.history.proofs.Canonical.{Canonical, blanked, blank-canonical}
+use Rattle.history.proofs.Canonical.{Canonical, blank-canonical}
 use Rattle.history.proofs.Checked.{check-told}
 use Rattle.history.proofs.Entered.{writes-head}
 use Rattle.history.proofs.Replayed.{replay-told, replays-there}
@@ -136,8 +136,8 @@ module _ {PS PC : Type 0} (K : Model PS PC) (L : Laws K) where
     keeps : (k : Call PS) → Canonical K (fed K h k) (run K v k)
     keeps format =
         subst (λ r. Canonical K (fed K h format) (kept v r)) (sym (formats K v (C .sizes)))
-        (subst (λ n. Canonical K (fresh n (h .capacity)) (blanked K v)) (C .all-cells)
-        (subst (λ n. Canonical K (fresh (length (v .cells)) n) (blanked K v)) (C .all-records) (blank-canonical K L v (C .sizes))))
+        (subst (λ n. Canonical K (fresh n (h .capacity)) (emptied K v)) (C .all-cells)
+        (subst (λ n. Canonical K (fresh (length (v .cells)) n) (emptied K v)) (C .all-records) (blank-canonical K L v (C .sizes))))
     keeps (write c s) = write-keeps c s
     keeps (read c) = C
     keeps (span c a b) = C

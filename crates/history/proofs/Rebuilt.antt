@@ -21,7 +21,7 @@ use Rattle.journal.specs.Appends.{planned}
 use Rattle.journal.specs.Links.{blank, numbered}
 use Rattle.journal.specs.Spans.{spanned}
 use Rattle.logs.proofs.Proved.{never-refused}
-use Rattle.volume.specs.Calls.{origin, written}
+use Rattle.volume.specs.Calls.{origin, written, emptied}
 use Rattle.volume.specs.Checks.{newest-to, as-planned, right-record, record-right, head-right, as-changed, cell-right, judged, workable, checked}
 use Rattle.volume.specs.Memory.{Memory, memory}
 use Rattle.volume.specs.Rolls.{acted}
@@ -34,7 +34,7 @@ use Rattle.history.specs.History.{History, count, appended}
 use Rattle.history.specs.Promises.{fresh}
 use Rattle.history.specs.Soundness.{Asked, asks, Alike, Counts-as, Left-by-writes}
 use Rattle.history.proofs.Alikes.{Related, AlikeStretch, planned-alike, spanned-alike}
-use Rattle.history.proofs.Canonical.{Sizes, sized-ok, sized-cases, Canonical, blanked, blank-canonical}
+use Rattle.history.proofs.Canonical.{Sizes, sized-ok, sized-cases, Canonical, blank-canonical}
 use Rattle.history.proofs.Checked.{cell-made}
 use Rattle.history.proofs.Spanned.{got, spans}
 use Rattle.history.proofs.Written.{f, r, plans, few, ws, after, formats, write-taken, write-canonical}
@@ -132,19 +132,19 @@ module _ {PS PC : Type 0} (K : Model PS PC) (L : Laws K) where
     new-state w i = acted K (at i .change) (getD (w .cells) (at i .cell) (origin K))
 
     abbrev rebuilt : ℕ → Memory PS PC
-    rebuilt zero = blanked K v
+    rebuilt zero = emptied K v
     rebuilt (suc m) = run K (rebuilt m) (write (at m .cell) (new-state (rebuilt m) m))
 
     abbrev asked : ℕ → List (Asked PS)
     asked zero = []
     asked (suc m) = asked m ++ record { cell = at m .cell; state = new-state (rebuilt m) m } ∷ []
 
-    asked-makes : (m : ℕ) → run-all K (blanked K v) (asks (asked m)) ≡ rebuilt m
+    asked-makes : (m : ℕ) → run-all K (emptied K v) (asks (asked m)) ≡ rebuilt m
     asked-makes zero = refl
     asked-makes (suc m) =
         let a : Asked PS = record { cell = at m .cell; state = new-state (rebuilt m) m } in
-        ap (run-all K (blanked K v)) (asks-append (asked m) (a ∷ []))
-        ∙ run-append K (blanked K v) (asks (asked m)) (asks (a ∷ []))
+        ap (run-all K (emptied K v)) (asks-append (asked m) (a ∷ []))
+        ∙ run-append K (emptied K v) (asks (asked m)) (asks (a ∷ []))
         ∙ ap (λ w. run K w (write (at m .cell) (new-state (rebuilt m) m))) (asked-makes m)
 
     -- what they have made is as it lies there
@@ -306,7 +306,7 @@ module _ {PS PC : Type 0} (K : Model PS PC) (L : Laws K) where
     pub left : Left-by-writes K v
     left =
         record {
-          start = blanked K v;
+          start = emptied K v;
           formats = formats K v z;
           writes = asked (v .count);
           counts = subst (Counts-as K v) (sym (asked-makes (v .count))) (counts-as (made (v .count) (omega arith)));

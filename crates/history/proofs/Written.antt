@@ -18,27 +18,27 @@ use Rattle.journal.specs.Appends.{planned}
 use Rattle.logs.specs.Theorems.{Logs}
 use Rattle.logs.specs.Writes.{Write, headOf, logOf}
 use Rattle.logs.proofs.Proved.{never-refused, head-moves}
-use Rattle.volume.specs.Calls.{origin, difference, logged, formatted, written}
+use Rattle.volume.specs.Calls.{origin, difference, logged, formatted, written, emptied}
 use Rattle.volume.specs.Memory.{Memory, memory}
 use Rattle.volume.specs.Sizes.{sized, sound}
 use Rattle.volume.specs.declared.refusal.Refusal.{Refusal}
 use Rattle.volume.specs.declared.refusal.Refusal.the-variants.{Cell, Full, Ladder}
 use Rattle.history.specs.History.{History, Entry, count, appended, latest}
-use Rattle.history.proofs.Canonical.{Sizes, sized-ok, sized-cases, owned-append, Canonical, sound-is, blanked}
+use Rattle.history.proofs.Canonical.{Sizes, sized-ok, sized-cases, owned-append, Canonical, sound-is}
 use Rattle.history.proofs.Entered.{writes, write-of, writes-append, writes-length, latest-append}
 
 module _ {PS PC : Type 0} (K : Model PS PC) where
-  pub formats : (m : Memory PS PC) → Sizes (length (m .cells)) (length (m .heads)) (length (m .records)) → formatted K m ≡ Ok (blanked K m)
+  pub formats : (m : Memory PS PC) → Sizes (length (m .cells)) (length (m .heads)) (length (m .records)) → formatted K m ≡ Ok (emptied K m)
   unfolding formatted
-  formats m z = ap (λ r. andThen r (λ _. Ok (blanked K m))) (sized-ok z)
+  formats m z = ap (λ r. andThen r (λ _. Ok (emptied K m))) (sized-ok z)
 
   -- a format that is accepted
-  pub formats-only : (m v : Memory PS PC) → formatted K m ≡ Ok v → Sizes (length (m .cells)) (length (m .heads)) (length (m .records)) × (blanked K m ≡ v)
+  pub formats-only : (m v : Memory PS PC) → formatted K m ≡ Ok v → Sizes (length (m .cells)) (length (m .heads)) (length (m .records)) × (emptied K m ≡ v)
   unfolding formatted
   formats-only m v e =
       elim (sized-cases (length (m .cells)) (length (m .heads)) (length (m .records))) [
-        | inl z ↦ (let same : Ok (blanked K m) ≡ Ok v = sym (ap (λ r. andThen r (λ _. Ok (blanked K m))) (sized-ok z)) ∙ e in (z, cc))
-        | inr bad ↦ (let never : Err (bad .0) ≡ Ok v = sym (ap (λ r. andThen r (λ _. Ok (blanked K m))) (bad .1)) ∙ e in let z : _≡_ {A = ℕ} 0 1 = cc in absurd (omega arith))
+        | inl z ↦ (let same : Ok (emptied K m) ≡ Ok v = sym (ap (λ r. andThen r (λ _. Ok (emptied K m))) (sized-ok z)) ∙ e in (z, cc))
+        | inr bad ↦ (let never : Err (bad .0) ≡ Ok v = sym (ap (λ r. andThen r (λ _. Ok (emptied K m))) (bad .1)) ∙ e in let z : _≡_ {A = ℕ} 0 1 = cc in absurd (omega arith))
       ]
 
   module _ (L : Laws K) {h : History (K .State)} {v : Memory PS PC} (C : Canonical K h v) (c : ℕ) (s : PS) where

@@ -33,13 +33,13 @@ module _ {PS PC : Type 0} (K : Model PS PC) (L : Laws K) where
       let one : us ++ w ∷ vs ≡ (us ++ w ∷ []) ++ vs = sym (append-assoc us (w ∷ []) vs) in
       let front : Logs K rs us = logs-front K L us (w ∷ vs) rs e in
       let more : Logs K rs (us ++ w ∷ []) = logs-front K L (us ++ w ∷ []) vs rs (subst (Logs K rs) one e) in
-      let (r, answer, _, cell, change, grown) = grows K L us rs front w (omega arith) in
+      let (r, answer, next, cell, change, grown) = grows K L us rs front w (omega arith) in
       let size = logs-length K L us in
       let same : numbered K rs (n + 1) ≡ r =
       sym (getD-take (length (us ++ w ∷ [])) rs (n + 1 - 1) (blank K) (omega (arith, length-push us w)))
       ∙ ap (λ ts. getD ts (n + 1 - 1) (blank K)) (more ∙ grown)
       ∙ getD-push (logOf K us) r (blank K) (n + 1 - 1) (omega arith) in
-      (answer ∙ ap Ok (sym same), ap (λ (x : Record PC). x .cell) same ∙ cell, ap (λ (x : Record PC). x .change) same ∙ change)
+      (answer ∙ ap Ok (sym same), ap (λ (x : Record PC). x .cell) same ∙ cell, ap (λ (x : Record PC). x .change) same ∙ change, ap (λ (x : Record PC). x .next) same ∙ next)
 
   -- the spans of a cell
   module _ (ws : List (Write PC)) (rs : List (Record PC)) (e : Logs K rs ws) (room : length ws ≤ 65535) (c : ℕ) where

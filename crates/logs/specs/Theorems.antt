@@ -57,3 +57,4 @@ module _ {PS PC : Type 0} (K : Model PS PC) where
       (us : List (Write PC)) (w : Write PC) (vs : List (Write PC)) (rs : List (Record PC)) → Logs rs (us ++ w ∷ vs) → length (us ++ w ∷ vs) ≤ 65535 →
       (planned K rs (length us + 1) (headOf us (w .cell)) (w .cell) (w .change) ≡ Ok (numbered K rs (length us + 1)))
       × (numbered K rs (length us + 1) .cell ≡ w .cell) × (numbered K rs (length us + 1) .change ≡ w .change)
+      × (numbered K rs (length us + 1) .next ≡ headOf us (w .cell))
