@@ -1,0 +1,13 @@
+-- How states and changes are written: tallies in decimal, the others in hexadecimal.
+use mathlib.Core.Path.{_≡_}
+use mathlib.Core.List.{List}
+use Prim.Native.Nat.{ℕ}
+use Rattle.kind.specs.Model.{Model}
+use Rattle.script.specs.Hex.{hexOf}
+
+-- two lowercase digits for each byte of the form
+abbrev pub state-hex : {S C : Type 0} → Model S C → S → List ℕ
+state-hex K s = hexOf (K .state-form (K .state s))
+
+abbrev pub change-hex : {S C : Type 0} → Model S C → C → List ℕ
+change-hex K f = hexOf (K .change-form (K .change f))
