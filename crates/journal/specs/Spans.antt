@@ -32,11 +32,11 @@ module _ {PS PC : Type 0} (K : Model PS PC) where
 
   -- the walk w, gone on to record n
   abbrev pub moved : List (Record PC) → ℕ → Walked PC → ℕ → Result (Walked PC) LadderFault
-  moved rs end w n = Ok (record { place = n; taken = followed (taking end (numbered rs (w .place))) (w .taken); steps = w .steps + 1 })
+  moved rs end w n = Ok (record { place = n; taken = followed (taking end (numbered K rs (w .place))) (w .taken); steps = w .steps + 1 })
 
   -- one step of a walk to `end`
   abbrev pub step : List (Record PC) → ℕ → ℕ → Walked PC → Result (Walked PC) LadderFault
-  step rs cell end w = andThen (follow rs cell (w .place - 1) (w .place) (way end (numbered rs (w .place)))) (moved rs end w)
+  step rs cell end w = andThen (follow K rs cell (w .place - 1) (w .place) (way end (numbered K rs (w .place)))) (moved rs end w)
 
   -- at most n steps: the walk stops at zero or at a record not above `end`
   abbrev pub walk : ℕ → List (Record PC) → ℕ → ℕ → Walked PC → Result (Walked PC) LadderFault
@@ -50,7 +50,7 @@ module _ {PS PC : Type 0} (K : Model PS PC) where
   -- the changes after moment `low` up to moment `high`: from the head to `high`, then on to `low`
   abbrev pub ascent : List (Record PC) → ℕ → ℕ → ℕ → ℕ → ℕ → Result (Stretch PC) LadderFault
   ascent rs count head cell low high =
-      andThen (follow rs cell (newest rs count) 0 head) (λ n.
+      andThen (follow K rs cell (newest rs count) 0 head) (λ n.
       andThen (reach rs cell high (started n)) (λ top.
       andThen (reach rs cell low (started (top .place))) (λ rest.
       Ok (record { change = rest .taken; steps = top .steps + rest .steps }))))

@@ -1,2 +1,2 @@
-pub mod MapSteps
-pub mod Reading
+pub mod ArrangementLoops
+pub mod Meant

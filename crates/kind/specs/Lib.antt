@@ -1,10 +1,13 @@
 pub mod Answers
 pub mod Bytes
-pub mod Kept
 pub mod Model
+pub mod Calls
 pub mod Forms
-pub mod Tallies
+pub mod Passing
+pub mod Xors
 pub mod Blocks
-pub mod Arrange
-pub mod Lists
+pub mod Tallies
+pub mod Arrangements
 pub mod BankMaps
+pub mod Meanings
+pub mod laws

@@ -1,12 +1,13 @@
-// A map of 16 pages, which changes by arrangements.
+// The bank map: an arrangement of 16 page numbers, which changes by arrangements. It lies in memory as 16 plain bytes, from
+// which the arrangement is made at each use; bytes that are none are taken for the one in order.
 use crate::Kind;
 use crate::KindFault;
 use crate::arrangement::Arrangement;
 use crate::arrangement::is_arrangement;
 use crate::forms::put;
 use crate::forms::same_bytes;
-ghost use mathlib.Core.Path.{_≡_};
-ghost use Rattle.kind.specs.BankMaps.{bank-map, bank-map-laws};
+ghost use Rattle.kind.specs.BankMaps.{bank-map};
+ghost use Rattle.kind.specs.laws.BankMaps.{bank-map-laws};
 
 pub struct BankMap;
 

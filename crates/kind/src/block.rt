@@ -1,24 +1,19 @@
-// A block of 128 bytes, which changes by xor.
+// The block: 128 bytes, which change by XOR of equal places.
 use crate::Kind;
 use crate::KindFault;
-use crate::forms::bytes_known;
 use crate::forms::put;
 use crate::forms::same_bytes;
+use crate::known::block_known;
+use crate::known::bytes_known;
 ghost use mathlib.Core.Path.{_≡_};
-ghost use mathlib.Core.Bool.{true};
-ghost use Rattle.kind.specs.Blocks.{block, block-laws, block?, xors};
+ghost use Rattle.kind.specs.Blocks.{block};
+ghost use Rattle.kind.specs.Xors.{xors};
+ghost use Rattle.kind.specs.laws.Blocks.{block-laws};
 
 pub struct Block;
 
-// Every array of 128 bytes is a block: for proofs alone.
-pub fn block_known(x: &[u8; 128])
-    ensures { λ _. ⌜ block? (now (x .entry)) ≡ true ⌝ }
-{
-    bytes_known(x);
-}
-
 // The xor of equal places.
-pub fn xor(f: &[u8; 128], g: &[u8; 128]) -> [u8; 128]
+fn xor(f: &[u8; 128], g: &[u8; 128]) -> [u8; 128]
     ensures { λ r. ⌜ r ≡ xors (now (f .entry)) (now (g .entry)) ⌝ }
 {
     let mut out = [0; 128];

@@ -1,15 +1,13 @@
 // What the kinds share in reading and writing byte forms.
 ghost use mathlib.Core.Path.{_≡_};
-ghost use mathlib.Core.Bool.{Bool, true, cond};
+ghost use mathlib.Core.Bool.{cond};
 ghost use mathlib.Core.List.{_++_};
 ghost use lib.ListN.{length, drop};
 ghost use lib.Dec.{leb};
-ghost use Prim.Native.Nat.{ℕ, _<_, _≤_};
-ghost use Rattle.kind.specs.Bytes.{bytes?};
 ghost use Rattle.std.specs.shelf.Text.{sameBytes};
 
 // Writes `form` to the front of `out`, or nothing where it is too long.
-pub fn put(form: &[u8], out: &mut [u8]) -> bool
+pub(crate) fn put(form: &[u8], out: &mut [u8]) -> bool
     ensures { λ r. ⌜ r ≡ leb (length (now (form .entry))) (length (now (out .entry))) ⌝ ∗ ⌜ now (out .exit) ≡ cond r (now (form .entry) ++ drop (length (now (form .entry))) (now (out .entry))) (now (out .entry)) ⌝ }
 {
     let n = form.len();
@@ -21,16 +19,8 @@ pub fn put(form: &[u8], out: &mut [u8]) -> bool
     }
 }
 
-// Every element of a slice of bytes is a byte, which the logic knows once one is read: for proofs alone.
-pub fn bytes_known(x: &[u8])
-    ensures { λ _. ⌜ bytes? (now (x .entry)) ≡ true ⌝ }
-{
-    if x.len() > 0 {
-        let _first = x[0];
-    }
-}
-
-pub fn same_bytes(a: &[u8], b: &[u8]) -> bool
+// Whether two slices hold the same bytes.
+pub(crate) fn same_bytes(a: &[u8], b: &[u8]) -> bool
     ensures { λ r. ⌜ r ≡ sameBytes (now (a .entry)) (now (b .entry)) ⌝ }
 {
     a == b

@@ -1,10 +1,9 @@
-// A count that wraps: sums modulo 2 ^ 32.
+// The tally: a signed number of 32 bits, which changes by sums modulo 2 ^ 32.
 use crate::Kind;
 use crate::KindFault;
 use crate::forms::put;
-ghost use mathlib.Core.Path.{_≡_};
-ghost use lib.IntN.{pos};
-ghost use Rattle.kind.specs.Tallies.{tally, tally-laws};
+ghost use Rattle.kind.specs.Tallies.{tally};
+ghost use Rattle.kind.specs.laws.Tallies.{tally-laws};
 
 pub struct Tally;
 

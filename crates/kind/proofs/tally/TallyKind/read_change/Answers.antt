@@ -8,8 +8,10 @@ use mir.Val.{toZ, ofZ}
 use Rattle.std.proofs.shelf.Signed.{ofZ-toZ}
 use Rattle.std.specs.Results.{mapped}
 use Rattle.std.specs.declared.result.Result.the-variants.{Ok}
-use Rattle.kind.specs.Bytes.{le32, bytes-from-getD}
-use Rattle.kind.specs.Tallies.{tally, word-read-is}
+use Rattle.kind.specs.Bytes.{le32}
+use Rattle.kind.specs.laws.Bytes.{bytes-from-getD}
+use Rattle.kind.specs.Tallies.{tally}
+use Rattle.kind.specs.laws.Tallies.{word-read-is}
 use Rattle.kind.proofs.tally.TallyKind.read_change.Needs as need
 
 pub returns : need.returns

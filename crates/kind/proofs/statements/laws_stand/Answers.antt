@@ -1,0 +1,4 @@
+use Rattle.kind.proofs.statements.laws_stand.Needs as need
+
+pub returns : need.returns
+returns g c = g .K·Kind .laws

@@ -1,0 +1,4 @@
+pub mod Calls
+pub mod Memory
+pub mod Numbers
+pub mod Sizes

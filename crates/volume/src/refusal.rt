@@ -1,0 +1,51 @@
+// Why a call is refused.
+ghost use mathlib.Core.Path.{_≡_};
+ghost use Rattle.volume.specs.Numbers.{refusal-number};
+ghost use Rattle.volume.specs.declared.refusal.Refusal.the-variants.{Ladder};
+use journal::faults::LadderFault;
+
+// A refused call changes nothing. Each refusal has a number, by which documents, scripts and C know it.
+#[derive(Clone, Copy)]
+pub enum Refusal {
+    // 1: there is no cell, or more than 4,096
+    Cells,
+    // 2: the heads are not as many as the cells
+    Heads,
+    // 3: the log has space for more than 65,535 records
+    Capacity,
+    // 4: the count is above the log's capacity
+    Count,
+    // 13: there is no such cell
+    Cell,
+    // 14: a moment is above the count
+    Moment,
+    // 18: a link that was followed is not good, or a length would pass 65,535
+    Ladder(LadderFault),
+    // 19: the log has no space for the records that are needed
+    Full,
+}
+
+pub impl From<LadderFault> for Refusal as RefusalFromLadder {
+    ghost converts = { λ f r. r ≡ Ladder f };
+
+    fn from(fault: LadderFault) -> Refusal {
+        Refusal::Ladder(fault)
+    }
+}
+
+impl Refusal {
+    pub fn number(self) -> u8
+        ensures { λ r. ⌜ r ≡ refusal-number self ⌝ }
+    {
+        match self {
+            Refusal::Cells => 1,
+            Refusal::Heads => 2,
+            Refusal::Capacity => 3,
+            Refusal::Count => 4,
+            Refusal::Cell => 13,
+            Refusal::Moment => 14,
+            Refusal::Ladder(_) => 18,
+            Refusal::Full => 19,
+        }
+    }
+}
