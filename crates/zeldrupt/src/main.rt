@@ -1,4 +1,5 @@
 // Changes a state of each kind twice, combines the two changes, and takes the state back.
+mod memory;
 mod notation;
 mod task;
 
