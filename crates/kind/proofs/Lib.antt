@@ -1,2 +1,3 @@
 pub mod ArrangementLoops
 pub mod Meant
+pub mod Tried

@@ -1,0 +1,6 @@
+use borrow.Author.Needs.{needs}
+use lib.Seq.{getD-drop}
+use Rattle.file.proofs.numbers.u32_at.Needs as need
+
+pub returns : need.returns
+returns c = search (needs, getD-drop)
