@@ -1,2 +1,1 @@
 pub mod Notations
-pub mod Tasks

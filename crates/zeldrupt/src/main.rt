@@ -1,60 +1,64 @@
-// Changes a state of each kind twice, combines the two changes, and takes the state back.
+// Runs a script of commands on a volume, a line each, and prints each command with its answer.
+mod fault;
+mod lists;
 mod memory;
 mod notation;
-mod task;
+mod session;
 
-use kind::bank_map::BankMap;
-use kind::bank_map::BankMapKind;
-use kind::block::Block;
-use kind::block::BlockKind;
-use kind::tally::Tally;
-use kind::tally::TallyKind;
-use notation::BankMapNotation;
-use notation::BlockNotation;
-use notation::Notation;
-use notation::TallyNotation;
-use std::error::AnyError;
-use task::there_and_back;
+use fault::FaultDisplay;
+use script::command::parse;
+use script::error::ScriptError;
+use script::error::ScriptErrorDisplay;
+use script::line::uncomment;
+use session::Session;
+use std::env;
+use std::fs::File;
+use std::io;
+use std::io::BufRead;
+use std::io::BufReader;
+use std::io::BufWriter;
+use std::io::Write;
+use std::str::from_utf8;
 
-fn show<K: Notation>(rt: &LibcRuntime, kind: &str, states: [&K::State; 3]) -> Result<(), AnyError> {
-    let heap = rt.alloc();
-    let [a, b, c] = states;
-    let task = there_and_back::<K>(a, b, c);
-    println!(rt, "{kind}: {}", K::show_state(heap, a)?)?;
-    println!(
-        rt,
-        "  {}: {}",
-        K::show_change(heap, &task.first)?,
-        K::show_state(heap, b)?
-    )?;
-    println!(
-        rt,
-        "  {}: {}",
-        K::show_change(heap, &task.second)?,
-        K::show_state(heap, c)?
-    )?;
-    println!(rt, "  both {}", K::show_change(heap, &task.both)?)?;
-    println!(
-        rt,
-        "  back {}: {}",
-        K::show_change(heap, &task.undo)?,
-        K::show_state(heap, &task.back)?
-    )?;
-    Ok(())
+fn answer<W: Write + Drop>(
+    rt: &LibcRuntime,
+    session: &mut Session,
+    bytes: &[u8],
+    out: &mut BufWriter<W>,
+) -> io::Result<()> {
+    let Ok(line) = from_utf8(bytes) else {
+        return writeln!(out, "?: error: not text");
+    };
+    let command = uncomment(line).trim();
+    match parse(line) {
+        Ok(c) => match session.answer(rt, c) {
+            Ok(a) => writeln!(out, "{command}: {a}"),
+            Err(e) => writeln!(out, "{command}: {e}"),
+        },
+        Err(ScriptError::Blank) => Ok(()),
+        Err(e) => writeln!(out, "{command}: error: {e}"),
+    }
 }
 
-fn run(rt: &LibcRuntime) -> Result<(), AnyError> {
-    let mut one = [0; 128];
-    one[0] = 0x5a;
-    let mut two = [0xff; 128];
-    two[0] = 0xa5;
-    show::<Block>(rt, "block", [&Block::origin(), &one, &two])?;
-    show::<Tally>(rt, "tally", [&5, &-2147483648, &2147483647])?;
-    let f = [1, 0, 2, 3, 4, 5, 6, 7, 8, 9, 10, 11, 12, 13, 14, 15];
-    let g = [2, 0, 1, 3, 4, 5, 6, 7, 8, 9, 10, 11, 12, 13, 14, 15];
-    show::<BankMap>(rt, "map", [&BankMap::origin(), &f, &g])
+fn run<B: BufRead + Drop>(rt: &LibcRuntime, mut input: B) -> io::Result<()> {
+    let mut out = BufWriter::new(rt.stdout());
+    let mut session = Session::new(rt.alloc());
+    let mut line: Vec<u8> = Vec::new(rt.alloc());
+    for _ in 0..u64::MAX {
+        line.clear();
+        if input.read_until(b'\n', &mut line)? == 0 {
+            break;
+        }
+        answer(rt, &mut session, line.as_slice(), &mut out)?;
+    }
+    out.flush()
 }
 
-fn main(rt: LibcRuntime) -> Result<(), AnyError> {
-    rt.report(run(&rt))
+fn main(rt: LibcRuntime) -> io::Result<()> {
+    let mut args = env::args(&rt)?;
+    let _ = args.next();
+    match args.next() {
+        Some(path) => run(&rt, BufReader::new(File::open(&rt, path.as_str())?)),
+        None => run(&rt, BufReader::new(rt.stdin())),
+    }
 }

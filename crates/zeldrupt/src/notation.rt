@@ -7,8 +7,12 @@ ghost use Rattle.kind.specs.Blocks.{block};
 ghost use Rattle.kind.specs.BankMaps.{bank-map};
 ghost use Rattle.std.specs.Of.String.{string-bytes};
 ghost use Rattle.std.specs.Written.{signed};
+ghost use Rattle.std.specs.Reads.{ReadsSigned};
 ghost use Rattle.std.specs.Vec.{made};
-ghost use Rattle.zeldrupt.specs.Notations.{state-hex, change-hex};
+ghost use Rattle.std.specs.declared.result.Result.{Result};
+ghost use Rattle.script.specs.declared.error.ScriptError.{ScriptError};
+ghost use mir.Syntax.{w32};
+ghost use Rattle.zeldrupt.specs.Notations.{state-hex, change-hex, ReadsHex};
 use kind::Kind;
 use kind::bank_map::BankMap;
 use kind::bank_map::BankMapKind;
@@ -16,6 +20,8 @@ use kind::block::Block;
 use kind::block::BlockKind;
 use kind::tally::Tally;
 use kind::tally::TallyKind;
+use script::arguments;
+use script::error::ScriptError;
 use script::hex;
 use std::alloc::AllocError;
 use std::alloc::Global;
@@ -31,6 +37,31 @@ pub trait Notation: Kind {
 
     fn show_change(heap: Global, f: &Self::Change) -> Result<String, AllocError>
         ensures { λ r. ⌜ made r (λ t. string-bytes t ≡ changed (now (f .entry))) ⌝ };
+
+    // what a word is read as
+    ghost reads_state: { List ℕ → Result Self·State ScriptError → Type 0 };
+
+    ghost reads_change: { List ℕ → Result Self·Change ScriptError → Type 0 };
+
+    fn parse_state(word: &str) -> Result<Self::State, ScriptError>
+        ensures { λ r. ⌜ «reads_state» (now (word .entry)) r ⌝ };
+
+    fn parse_change(word: &str) -> Result<Self::Change, ScriptError>
+        ensures { λ r. ⌜ «reads_change» (now (word .entry)) r ⌝ };
+
+    // plain values of zero bytes alone
+    fn zero_state() -> Self::State;
+
+    fn zero_change() -> Self::Change;
+}
+
+// The bytes that a word writes in hexadecimal.
+fn plain_bytes<const N: usize>(word: &str) -> Result<[u8; N], ScriptError>
+    ensures { λ r. ⌜ ReadsHex N (now (word .entry)) r ⌝ }
+{
+    let mut bytes = [0; N];
+    hex::read_exact(word, &mut bytes)?;
+    Ok(bytes)
 }
 
 // The form of a state in hexadecimal; `form` is a place for its bytes.
@@ -77,6 +108,26 @@ pub impl Notation for Block as BlockNotation {
     fn show_change(heap: Global, f: &[u8; 128]) -> Result<String, AllocError> {
         hex_change::<Block>(heap, f)
     }
+
+    ghost reads_state = { ReadsHex 128 };
+
+    ghost reads_change = { ReadsHex 128 };
+
+    fn parse_state(word: &str) -> Result<[u8; 128], ScriptError> {
+        plain_bytes(word)
+    }
+
+    fn parse_change(word: &str) -> Result<[u8; 128], ScriptError> {
+        plain_bytes(word)
+    }
+
+    fn zero_state() -> [u8; 128] {
+        [0; 128]
+    }
+
+    fn zero_change() -> [u8; 128] {
+        [0; 128]
+    }
 }
 
 pub impl Notation for Tally as TallyNotation {
@@ -91,6 +142,26 @@ pub impl Notation for Tally as TallyNotation {
     fn show_change(heap: Global, f: &i32) -> Result<String, AllocError> {
         f.to_string(heap)
     }
+
+    ghost reads_state = { ReadsSigned w32 10 };
+
+    ghost reads_change = { ReadsSigned w32 10 };
+
+    fn parse_state(word: &str) -> Result<i32, ScriptError> {
+        arguments::signed(word)
+    }
+
+    fn parse_change(word: &str) -> Result<i32, ScriptError> {
+        arguments::signed(word)
+    }
+
+    fn zero_state() -> i32 {
+        0
+    }
+
+    fn zero_change() -> i32 {
+        0
+    }
 }
 
 pub impl Notation for BankMap as BankMapNotation {
@@ -104,5 +175,25 @@ pub impl Notation for BankMap as BankMapNotation {
 
     fn show_change(heap: Global, f: &[u8; 16]) -> Result<String, AllocError> {
         hex_change::<BankMap>(heap, f)
+    }
+
+    ghost reads_state = { ReadsHex 16 };
+
+    ghost reads_change = { ReadsHex 16 };
+
+    fn parse_state(word: &str) -> Result<[u8; 16], ScriptError> {
+        plain_bytes(word)
+    }
+
+    fn parse_change(word: &str) -> Result<[u8; 16], ScriptError> {
+        plain_bytes(word)
+    }
+
+    fn zero_state() -> [u8; 16] {
+        [0; 16]
+    }
+
+    fn zero_change() -> [u8; 16] {
+        [0; 16]
     }
 }
