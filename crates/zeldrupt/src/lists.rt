@@ -1,5 +1,5 @@
 // Rows of states and numbers, as text.
-use crate::notation::Notation;
+use script::notation::Notation;
 use std::alloc::AllocError;
 use std::alloc::Global;
 

@@ -2,7 +2,6 @@
 mod fault;
 mod lists;
 mod memory;
-mod notation;
 mod session;
 
 use fault::FaultDisplay;

@@ -1,15 +1,10 @@
 // Memory of one kind, and the commands on it. It is lent to a volume for each call; nothing else touches a volume.
-ghost use mathlib.Core.Path.{_≡_};
-ghost use lib.ListN.{replicate};
-ghost use Rattle.std.specs.Of.Vec.{vec-items};
-ghost use Rattle.std.specs.Vec.{made};
 use crate::fault::Fault;
 use crate::fault::FaultFromAlloc;
 use crate::fault::FaultFromRefusal;
 use crate::fault::FaultFromRefused;
 use crate::fault::FaultFromScript;
 use crate::lists;
-use crate::notation::Notation;
 use journal::record::Record;
 use journal::record::place_of;
 use kind::Kind;
@@ -18,6 +13,7 @@ use script::command::Command;
 use script::command::Field;
 use script::command::Spoken;
 use script::error::ScriptError;
+use script::notation::Notation;
 use std::alloc::AllocError;
 use std::alloc::Global;
 use volume::Volume;
@@ -38,9 +34,7 @@ pub struct Memory<K: Notation> {
     work: Vec<u32>,
 }
 
-fn filled<T: Copy>(heap: Global, x: T, n: u32) -> Result<Vec<T>, AllocError>
-    ensures { λ r. ⌜ made r (λ v. vec-items v ≡ replicate n x) ⌝ }
-{
+fn filled<T: Copy>(heap: Global, x: T, n: u32) -> Result<Vec<T>, AllocError> {
     let mut row = Vec::new(heap);
     row.resize(n as usize, x)?;
     Ok(row)
@@ -59,7 +53,11 @@ fn zero_record<K: Notation>() -> Record<K::Change> {
 }
 
 // The record with another value in one field.
-fn damaged<K: Notation>(r: Record<K::Change>, field: Field, value: &str) -> Result<Record<K::Change>, Fault> {
+fn damaged<K: Notation>(
+    r: Record<K::Change>,
+    field: Field,
+    value: &str,
+) -> Result<Record<K::Change>, Fault> {
     let mut r = r;
     match field {
         Field::Cell => {
@@ -96,28 +94,46 @@ impl<K: Notation> Memory<K> {
     }
 
     pub fn format(&mut self) -> Result<String, Fault> {
-        Volume::<K>::over(&mut self.cells, &mut self.heads, &mut self.records, &mut self.count).format()?;
+        Volume::<K>::over(
+            &mut self.cells,
+            &mut self.heads,
+            &mut self.records,
+            &mut self.count,
+        ).format()?;
         Ok(String::from_str(self.heap, "formatted")?)
     }
 
     fn write(&mut self, cell: u32, state: &str) -> Result<String, Fault> {
         let state = K::parse_state(state)?;
-        let count = Volume::<K>::over(&mut self.cells, &mut self.heads, &mut self.records, &mut self.count)
-            .write(cell, &state)?;
+        let count = Volume::<K>::over(
+            &mut self.cells,
+            &mut self.heads,
+            &mut self.records,
+            &mut self.count,
+        ).write(cell, &state)?;
         Ok(format!(self.heap, "count {count}")?)
     }
 
     fn read(&mut self, cell: u32) -> Result<String, Fault> {
         let mut place = K::origin();
-        Volume::<K>::over(&mut self.cells, &mut self.heads, &mut self.records, &mut self.count).read(cell, &mut place)?;
+        Volume::<K>::over(
+            &mut self.cells,
+            &mut self.heads,
+            &mut self.records,
+            &mut self.count,
+        ).read(cell, &mut place)?;
         let state = K::show_state(self.heap, &place)?;
         Ok(format!(self.heap, "state {state}")?)
     }
 
     fn span(&mut self, cell: u32, from: u32, to: u32) -> Result<String, Fault> {
         let mut place = K::unit();
-        let steps = Volume::<K>::over(&mut self.cells, &mut self.heads, &mut self.records, &mut self.count)
-            .span(cell, from, to, &mut place)?;
+        let steps = Volume::<K>::over(
+            &mut self.cells,
+            &mut self.heads,
+            &mut self.records,
+            &mut self.count,
+        ).span(cell, from, to, &mut place)?;
         let change = K::show_change(self.heap, &place)?;
         Ok(format!(self.heap, "change {change}, steps {steps}")?)
     }
@@ -205,14 +221,22 @@ impl<K: Notation> Memory<K> {
             Command::PokeCell { cell, state } => self.poke_cell(cell, state),
             Command::PokeHead { cell, record } => self.poke_head(cell, record),
             Command::PokeCount { count } => self.poke_count(count),
-            Command::PokeRecord { record, field, value } => self.poke_record(record, field, value),
+            Command::PokeRecord {
+                record,
+                field,
+                value,
+            } => self.poke_record(record, field, value),
             _ => Err(Fault::Absent),
         }
     }
 }
 
 // A record's line of the log; `i` is its place, from 0.
-fn line_of<K: Notation>(heap: Global, i: usize, r: &Record<K::Change>) -> Result<String, AllocError> {
+fn line_of<K: Notation>(
+    heap: Global,
+    i: usize,
+    r: &Record<K::Change>,
+) -> Result<String, AllocError> {
     let number = i.saturating_add(1);
     let cell = r.cell;
     let next = r.next;
@@ -221,5 +245,8 @@ fn line_of<K: Notation>(heap: Global, i: usize, r: &Record<K::Change>) -> Result
     let foot = r.foot;
     let change = K::show_change(heap, &r.change)?;
     let fold = K::show_change(heap, &r.fold)?;
-    format!(heap, "\n  {number}: cell {cell}, next {next}, skip {skip}, length {length}, foot {foot}, change {change}, fold {fold}")
+    format!(
+        heap,
+        "\n  {number}: cell {cell}, next {next}, skip {skip}, length {length}, foot {foot}, change {change}, fold {fold}"
+    )
 }

@@ -6,9 +6,6 @@ use crate::fault::FaultFromIo;
 use crate::fault::FaultFromRefused;
 use crate::fault::FaultFromScript;
 use crate::memory::Memory;
-use crate::notation::BankMapNotation;
-use crate::notation::BlockNotation;
-use crate::notation::TallyNotation;
 use file::faults::FileFault;
 use file::items::Item;
 use file::items::Items;
@@ -20,6 +17,9 @@ use script::command::Command;
 use script::command::Spoken;
 use script::hex;
 use script::line::next_word;
+use script::notation::BankMapNotation;
+use script::notation::BlockNotation;
+use script::notation::TallyNotation;
 use std::alloc::Global;
 use std::fs;
 
@@ -50,7 +50,12 @@ fn record_line(heap: Global, number: u32, r: &SavedRecord<'_>) -> Result<String,
     let next = r.next;
     let cell = r.cell;
     let change = hex::render(heap, r.change)?;
-    Ok(format!(heap, "\n  record {number}: next {next}, cell {cell}, change {change}")?)
+    Ok(
+        format!(
+            heap,
+            "\n  record {number}: next {next}, cell {cell}, change {change}"
+        )?,
+    )
 }
 
 // The items of a file after its header, a line each.
@@ -80,7 +85,13 @@ impl Session {
     }
 
     // Memory of zero bytes takes the place of what was there, also where its format is refused.
-    fn format(&mut self, kind: &str, cells: u32, capacity: u32, heads: u32) -> Result<String, Fault> {
+    fn format(
+        &mut self,
+        kind: &str,
+        cells: u32,
+        capacity: u32,
+        heads: u32,
+    ) -> Result<String, Fault> {
         let heap = self.heap;
         match kind {
             "block" => {
@@ -144,9 +155,12 @@ impl Session {
 
     pub fn answer(&mut self, rt: &LibcRuntime, command: Spoken<'_>) -> Result<String, Fault> {
         match command {
-            Command::Format { kind, cells, capacity, heads } => {
-                self.format(kind, cells, capacity, heads.unwrap_or(cells))
-            }
+            Command::Format {
+                kind,
+                cells,
+                capacity,
+                heads,
+            } => { self.format(kind, cells, capacity, heads.unwrap_or(cells)) }
             Command::Bytes { path, hex } => self.bytes(rt, path, hex),
             Command::Dump { path } => self.dump(rt, path),
             Command::Items { path } => self.items(rt, path),

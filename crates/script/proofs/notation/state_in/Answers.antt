@@ -3,9 +3,9 @@ use mathlib.Core.List.{List}
 use Prim.Native.Nat.{ℕ}
 use Rattle.std.specs.Of.String.{string-bytes}
 use Rattle.std.specs.Vec.{made}
 use Rattle.script.specs.Hex.{hexOf}
-use Rattle.zeldrupt.proofs.Whole.{whole}
-use Rattle.zeldrupt.proofs.notation.state_in.Needs as need
+use Rattle.script.proofs.Whole.{whole}
+use Rattle.script.proofs.notation.state_in.Needs as need
 
 pub returns : need.returns
 returns g c =

@@ -10,9 +10,12 @@ ghost use Rattle.std.specs.Written.{signed};
 ghost use Rattle.std.specs.Reads.{ReadsSigned};
 ghost use Rattle.std.specs.Vec.{made};
 ghost use Rattle.std.specs.declared.result.Result.{Result};
 ghost use Rattle.script.specs.declared.error.ScriptError.{ScriptError};
 ghost use mir.Syntax.{w32};
-ghost use Rattle.zeldrupt.specs.Notations.{state-hex, change-hex, ReadsHex};
+ghost use Rattle.script.specs.Notations.{state-hex, change-hex, ReadsHex};
+use crate::arguments;
+use crate::error::ScriptError;
+use crate::hex;
 use kind::Kind;
 use kind::bank_map::BankMap;
 use kind::bank_map::BankMapKind;
@@ -20,9 +23,6 @@ use kind::block::Block;
 use kind::block::BlockKind;
 use kind::tally::Tally;
 use kind::tally::TallyKind;
-use script::arguments;
-use script::error::ScriptError;
-use script::hex;
 use std::alloc::AllocError;
 use std::alloc::Global;
 
@@ -55,11 +55,20 @@ pub trait Notation: Kind {
     fn zero_change() -> Self::Change;
 }
 
-// The bytes that a word writes in hexadecimal.
-fn plain_bytes<const N: usize>(word: &str) -> Result<[u8; N], ScriptError>
-    ensures { λ r. ⌜ ReadsHex N (now (word .entry)) r ⌝ }
+// A block of 128 bytes that a word writes in hexadecimal.
+fn plain_block(word: &str) -> Result<[u8; 128], ScriptError>
+    ensures { λ r. ⌜ ReadsHex 128 (now (word .entry)) r ⌝ }
 {
-    let mut bytes = [0; N];
+    let mut bytes = [0; 128];
+    hex::read_exact(word, &mut bytes)?;
+    Ok(bytes)
+}
+
+// Sixteen bytes that a word writes in hexadecimal.
+fn plain_map(word: &str) -> Result<[u8; 16], ScriptError>
+    ensures { λ r. ⌜ ReadsHex 16 (now (word .entry)) r ⌝ }
+{
+    let mut bytes = [0; 16];
     hex::read_exact(word, &mut bytes)?;
     Ok(bytes)
 }
@@ -114,11 +123,11 @@ pub impl Notation for Block as BlockNotation {
     ghost reads_change = { ReadsHex 128 };
 
     fn parse_state(word: &str) -> Result<[u8; 128], ScriptError> {
-        plain_bytes(word)
+        plain_block(word)
     }
 
     fn parse_change(word: &str) -> Result<[u8; 128], ScriptError> {
-        plain_bytes(word)
+        plain_block(word)
     }
 
     fn zero_state() -> [u8; 128] {
@@ -182,11 +191,11 @@ pub impl Notation for BankMap as BankMapNotation {
     ghost reads_change = { ReadsHex 16 };
 
     fn parse_state(word: &str) -> Result<[u8; 16], ScriptError> {
-        plain_bytes(word)
+        plain_map(word)
     }
 
     fn parse_change(word: &str) -> Result<[u8; 16], ScriptError> {
-        plain_bytes(word)
+        plain_map(word)
     }
 
     fn zero_state() -> [u8; 16] {
