@@ -28,7 +28,7 @@ pub fn signed(w: &str) -> Result<i32, ScriptError>
 }
 
 // The next word, and what follows it.
-pub fn word<'a>(text: &'a str) -> Result<(&'a str, &'a str), ScriptError>
+pub(crate) fn word<'a>(text: &'a str) -> Result<(&'a str, &'a str), ScriptError>
     ensures { λ r. ⌜ mapped (λ p. (p .0 .now, words (p .1 .now))) (λ e. e) r ≡ word-of (words (now (text .entry))) ⌝ }
 {
     match next_word(text) {
@@ -38,7 +38,7 @@ pub fn word<'a>(text: &'a str) -> Result<(&'a str, &'a str), ScriptError>
 }
 
 // The number that the next word writes, and what follows it.
-pub fn number<'a>(text: &'a str) -> Result<(u32, &'a str), ScriptError>
+pub(crate) fn number<'a>(text: &'a str) -> Result<(u32, &'a str), ScriptError>
     ensures { λ r. ⌜ mapped (λ p. (p .0, words (p .1 .now))) (λ e. e) r ≡ number-of (words (now (text .entry))) ⌝ }
 {
     let (w, rest) = word(text)?;
@@ -46,7 +46,7 @@ pub fn number<'a>(text: &'a str) -> Result<(u32, &'a str), ScriptError>
 }
 
 // No word is left.
-pub fn end(text: &str) -> Result<(), ScriptError>
+pub(crate) fn end(text: &str) -> Result<(), ScriptError>
     ensures { λ r. ⌜ r ≡ ended (words (now (text .entry))) ⌝ }
 {
     match next_word(text) {
@@ -56,7 +56,7 @@ pub fn end(text: &str) -> Result<(), ScriptError>
 }
 
 // A number that may be left out, and nothing after it.
-pub fn number_or_none(text: &str) -> Result<Option<u32>, ScriptError>
+pub(crate) fn number_or_none(text: &str) -> Result<Option<u32>, ScriptError>
     ensures { λ r. ⌜ r ≡ number-or-none (words (now (text .entry))) ⌝ }
 {
     match next_word(text) {
@@ -69,7 +69,7 @@ pub fn number_or_none(text: &str) -> Result<Option<u32>, ScriptError>
     }
 }
 
-pub fn only_word<'a>(text: &'a str) -> Result<&'a str, ScriptError>
+pub(crate) fn only_word<'a>(text: &'a str) -> Result<&'a str, ScriptError>
     ensures { λ r. ⌜ mapped (λ w. w .now) (λ e. e) r ≡ only-word (words (now (text .entry))) ⌝ }
 {
     let (w, rest) = word(text)?;
@@ -77,7 +77,7 @@ pub fn only_word<'a>(text: &'a str) -> Result<&'a str, ScriptError>
     Ok(w)
 }
 
-pub fn only_number(text: &str) -> Result<u32, ScriptError>
+pub(crate) fn only_number(text: &str) -> Result<u32, ScriptError>
     ensures { λ r. ⌜ r ≡ only-number (words (now (text .entry))) ⌝ }
 {
     let (n, rest) = number(text)?;
@@ -85,7 +85,7 @@ pub fn only_number(text: &str) -> Result<u32, ScriptError>
     Ok(n)
 }
 
-pub fn two_numbers(text: &str) -> Result<(u32, u32), ScriptError>
+pub(crate) fn two_numbers(text: &str) -> Result<(u32, u32), ScriptError>
     ensures { λ r. ⌜ r ≡ two-numbers (words (now (text .entry))) ⌝ }
 {
     let (m, rest) = number(text)?;
@@ -94,7 +94,7 @@ pub fn two_numbers(text: &str) -> Result<(u32, u32), ScriptError>
     Ok((m, n))
 }
 
-pub fn number_and_word<'a>(text: &'a str) -> Result<(u32, &'a str), ScriptError>
+pub(crate) fn number_and_word<'a>(text: &'a str) -> Result<(u32, &'a str), ScriptError>
     ensures { λ r. ⌜ mapped (λ p. (p .0, p .1 .now)) (λ e. e) r ≡ number-and-word (words (now (text .entry))) ⌝ }
 {
     let (n, rest) = number(text)?;

@@ -68,7 +68,7 @@ pub impl From<io::Error> for Fault as FaultFromIo {
 fn meaning(r: Refusal) -> &'static str {
     match r {
         Refusal::Cells => "no cell, or more than 4096",
-        Refusal::Heads => "not as many as cells",
+        Refusal::Heads => "heads or work row not as many as cells",
         Refusal::Capacity => "log above 65535 records",
         Refusal::Count => "count above the log",
         Refusal::Image => "image not as many as cells",
