@@ -34,9 +34,13 @@ module _ {PS PC : Type 0} (K : Model PS PC) where
   abbrev pub file-form : ℕ → List (Line K) → List ℕ
   file-form cells rs = header-form (K .letter) cells (length rs) ++ records-form rs
 
+  -- an area with a record written to it from byte `at` on
+  abbrev pub laid-at : ℕ → Line K → List ℕ → List ℕ
+  laid-at at r out = take at out ++ (record-form r ++ drop (at + (6 + K .width)) out)
+
   -- an area with record n of a file written to its place
   abbrev pub record-laid : ℕ → Line K → List ℕ → List ℕ
-  record-laid n r out = take (record-start (K .width) n) out ++ (record-form r ++ drop (record-start (K .width) n + (6 + K .width)) out)
+  record-laid n r out = laid-at (record-start (K .width) n) r out
 
   -- an area into which a header and then the first records of a file have been written
   abbrev pub written : ℕ → ℕ → List (Line K) → List ℕ → List ℕ

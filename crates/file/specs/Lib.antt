@@ -2,6 +2,7 @@ pub mod Faults
 pub mod Letters
 pub mod Header
 pub mod Records
+pub mod Changes
 pub mod Items
 pub mod States
 pub mod Told

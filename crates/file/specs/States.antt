@@ -7,10 +7,11 @@ use Rattle.std.specs.declared.option.Option.{Option}
 use Rattle.std.specs.declared.option.Option.the-variants.{Some, None}
 use Rattle.std.specs.declared.result.Result.{Result}
 use Rattle.std.specs.declared.result.Result.the-variants.{Ok}
-use Rattle.kind.specs.Answers.{refuse-if, andThen, refused-as}
+use Rattle.kind.specs.Answers.{refuse-if, andThen}
 use Rattle.kind.specs.Model.{Model}
 use Rattle.file.specs.declared.faults.FileFault.{FileFault}
-use Rattle.file.specs.declared.faults.FileFault.the-variants.{Cell, Next, Change}
+use Rattle.file.specs.declared.faults.FileFault.the-variants.{Cell, Next}
+use Rattle.file.specs.Changes.{change-read}
 use Rattle.file.specs.Header.{cells-at, header-of}
 use Rattle.file.specs.Records.{Parts, parts-of, record-bytes}
 
@@ -24,7 +25,7 @@ module _ {PS PC : Type 0} (K : Model PS PC) where
   change-for cells cell n last p =
       refuse-if (leb cells (p .cell)) (Cell n) (
       cond (eqb (p .cell) cell)
-      (refuse-if (not (eqb (p .next) last)) (Next n) (andThen (refused-as (Change n) (K .read-form (p .change))) (λ c. Ok (Some c))))
+      (refuse-if (not (eqb (p .next) last)) (Next n) (andThen (change-read K n (p .change)) (λ c. Ok (Some c))))
       (Ok None))
 
   abbrev pub moved : Option (K .Change) → K .State → K .State

@@ -6,7 +6,7 @@ ghost use Prim.Native.Nat.{_+_, _≤_};
 ghost use lib.Dec.{ltb, leb};
 ghost use lib.ListN.{length, take, drop};
 ghost use Rattle.file.specs.Back.{Any-header-back, Header-back, Record-back, Change-back, Placed, Long, Written-in-turn};
-ghost use Rattle.file.specs.Forms.{le16-form, le32-form, header-form, record-form, record-laid};
+ghost use Rattle.file.specs.Forms.{le16-form, le32-form, header-form, record-form, laid-at, record-laid};
 ghost use Rattle.file.specs.Records.{record-start};
 use crate::header::VERSION;
 use crate::records::RECORD;
@@ -78,6 +78,21 @@ pub fn write_record<K: Kind>(next: u32, cell: u16, change: &K::Change, out: &mut
     true
 }
 
+// Writes a record to `out` from byte `start` on. False, and nothing written, where `out` ends before it does.
+fn write_from<K: Kind>(
+    start: usize,
+    next: u32,
+    cell: u16,
+    change: &K::Change,
+    out: &mut [u8],
+) -> bool
+    requires { ⌜ start ≤ length (now out) ⌝ }
+    ensures done { λ r. ⌜ r ≡ leb (start + (6 + K·Kind .model .width)) (length (now (out .entry))) ⌝ }
+    ensures area { λ r. ⌜ now (out .exit) ≡ cond r (laid-at (K·Kind .model) start (record { next = next; cell = cell; change = K·Kind .model .change (now (change .entry)) }) (now (out .entry))) (now (out .entry)) ⌝ }
+{
+    write_record::<K>(next, cell, change, &mut out[start..])
+}
+
 // Writes record `n` of a file to its place in `out`. False, and nothing written, where `out` ends before it does.
 pub fn write_record_at<K: Kind>(
     n: u32,
@@ -93,7 +108,7 @@ pub fn write_record_at<K: Kind>(
     if start > out.len() {
         return false;
     }
-    write_record::<K>(next, cell, change, &mut out[start..])
+    write_from::<K>(start, next, cell, change, out)
 }
 
 // Header and records, written in turn, make a file, and reading gives back what was written.

@@ -1,4 +1,5 @@
 // The saved form of a volume: a header of eight bytes, then one record after another.
+pub mod changes;
 pub mod faults;
 pub mod forms;
 pub mod header;

@@ -3,29 +3,16 @@ ghost use mathlib.Core.Path.{_≡_};
 ghost use Prim.Native.Nat.{_≤_};
 ghost use Rattle.std.specs.Results.{mapped};
 ghost use Rattle.std.specs.Options.{mapped as mapped-some};
-ghost use Rattle.file.specs.Faults.{at-record};
 ghost use Rattle.file.specs.Header.{Whole, cells-at, count-at};
 ghost use Rattle.file.specs.Records.{parts-seen};
 ghost use Rattle.file.specs.States.{change-for, replayed, state-after};
 ghost use Rattle.file.specs.Told.{Recalls, Lasts};
-use crate::faults::AtRecord;
+use crate::changes::read_change_at;
 use crate::faults::FileFault;
-use crate::faults::FileFaultFromKind;
 use crate::header::read_header;
 use crate::records::SavedRecord;
 use crate::records::saved_record;
 use kind::Kind;
-use kind::KindFault;
-
-// A kind's answer at record `number`.
-fn at_record<T>(number: u32, r: Result<T, KindFault>) -> Result<T, AtRecord>
-    ensures { λ a. ⌜ a ≡ mapped (λ x. x) (at-record number) r ⌝ }
-{
-    match r {
-        Ok(x) => Ok(x),
-        Err(fault) => Err(AtRecord { number, fault }),
-    }
-}
 
 // What record `n` says of the cell: its change, or nothing where it is another cell's.
 fn change_for<K: Kind>(
@@ -46,7 +33,7 @@ fn change_for<K: Kind>(
     if saved.next != last {
         return Err(FileFault::Next(n));
     }
-    let change = at_record(n, K::read_change(saved.change))?;
+    let change = read_change_at::<K>(n, saved.change)?;
     Ok(Some(change))
 }
 

@@ -1,7 +1,7 @@
 -- The memory that a history leaves, up to what the cells are taken for and to what lies beyond the count. Assumes nothing.
 use mathlib.Core.Path.{_≡_, refl, sym, ap, subst, _∙_}
 use mathlib.Core.Bool.{Bool, cond, not, _||_}
-use mathlib.Core.List.{List, [], _∷_}
+use mathlib.Core.List.{List, [], _∷_, _++_}
 use mathlib.Core.Logic.{_⊎_, inl, inr}
 use Prim.Native.Nat.{ℕ, _≤_, _<_}
 use native.Mathlib.Omega.{arith}
@@ -20,7 +20,7 @@ use Rattle.volume.specs.Memory.{Memory, memory}
 use Rattle.volume.specs.Sizes.{sized, sound}
 use Rattle.volume.specs.declared.refusal.Refusal.{Refusal}
 use Rattle.volume.specs.declared.refusal.Refusal.the-variants.{Cells, Heads, Capacity, Count}
-use Rattle.history.specs.History.{History, count, latest}
+use Rattle.history.specs.History.{History, Entry, count, latest}
 use Rattle.history.specs.Promises.{fresh}
 use Rattle.history.proofs.Entered.{writes}
 
@@ -68,6 +68,19 @@ sized-cases a b c =
           ])
     ]
 
+-- every entry is of one of n cells
+abbrev pub Owned : {S : Type 0} → ℕ → List (Entry S) → Type 0
+Owned n [] = Unit {0}
+Owned n (e ∷ es) = (e .cell < n) × Owned n es
+
+pub owned-append : {S : Type 0} (n : ℕ) (xs ys : List (Entry S)) → Owned n xs → Owned n ys → Owned n (xs ++ ys)
+owned-append n [] ys p q = q
+owned-append n (x ∷ xs) ys p q = (p .0, owned-append n xs ys (p .1) q)
+
+pub owned-at : {S : Type 0} (n : ℕ) (xs : List (Entry S)) (e : Entry S) (ys : List (Entry S)) → Owned n (xs ++ e ∷ ys) → e .cell < n
+owned-at n [] e ys p = p .0
+owned-at n (x ∷ xs) e ys p = owned-at n xs e ys (p .1)
+
 module _ {PS PC : Type 0} (K : Model PS PC) where
   pub record Canonical (h : History (K .State)) (v : Memory PS PC) : Type 0 where
     pub all-cells : length (v .cells) ≡ h .cells
@@ -75,6 +88,7 @@ module _ {PS PC : Type 0} (K : Model PS PC) where
     pub sizes : Sizes (length (v .cells)) (length (v .heads)) (length (v .records))
     pub counts : v .count ≡ count h
     pub fits : count h ≤ h .capacity
+    pub owned : Owned (h .cells) (h .entries)
     pub states : (c : ℕ) → c < h .cells → K .state (getD (v .cells) c (origin K)) ≡ latest (K .origin) c (h .entries)
     pub heads : (c : ℕ) → c < h .cells → getD (v .heads) c 0 ≡ headOf (writes K (h .entries)) c
     pub logs : Logs K (v .records) (writes K (h .entries))
@@ -104,6 +118,7 @@ module _ {PS PC : Type 0} (K : Model PS PC) where
         };
         counts = refl;
         fits = omega arith;
+        owned = tt;
         states = λ c l. ap (K .state) (getD-replicate n c (origin K) (origin K) l) ∙ L .state-plain (K .origin);
         heads = λ c l. getD-replicate (length (m .heads)) c 0 0 (omega (arith, z .even));
         logs = refl;

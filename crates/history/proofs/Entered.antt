@@ -11,7 +11,7 @@ use Rattle.std.proofs.shelf.Lists.{append-assoc, append-nil}
 use Rattle.std.proofs.shelf.Tests.{cases-bool, cases-lt, cond-true, cond-false, eqb-true, lt-ltb, le-ltb}
 use Rattle.kind.specs.Model.{Model, Laws}
 use Rattle.logs.specs.Writes.{Write, headAfter, headOf, changeTo, changesTo, composed, writesTo}
-use Rattle.logs.proofs.Algebra.{composed-append}
+use Rattle.logs.proofs.Algebra.{composed-append, onward, onward-reaches}
 use Rattle.logs.proofs.Counted.{total}
 use Rattle.history.specs.History.{Entry, latest, last-number, entries-of}
 
@@ -32,14 +32,14 @@ module _ {PS PC : Type 0} (K : Model PS PC) where
   abbrev pub writes : List (Entry (K .State)) → List (Write PC)
   writes es = writes-on [] es
 
-  push-on : (past es : List (Entry (K .State))) (e : Entry (K .State)) → writes-on past (es ++ e ∷ []) ≡ writes-on past es ++ write-of (past ++ es) e ∷ []
-  push-on past [] e = ap (λ p. write-of p e ∷ []) (sym (append-nil past))
-  push-on past (x ∷ es) e =
+  append-on : (past xs ys : List (Entry (K .State))) → writes-on past (xs ++ ys) ≡ writes-on past xs ++ writes-on (past ++ xs) ys
+  append-on past [] ys = ap (λ p. writes-on p ys) (sym (append-nil past))
+  append-on past (x ∷ xs) ys =
       ap (λ (us : List (Write PC)). write-of past x ∷ us)
-      (push-on (past ++ x ∷ []) es e ∙ ap (λ p. writes-on (past ++ x ∷ []) es ++ write-of p e ∷ []) (append-assoc past (x ∷ []) es))
+      (append-on (past ++ x ∷ []) xs ys ∙ ap (λ p. writes-on (past ++ x ∷ []) xs ++ writes-on p ys) (append-assoc past (x ∷ []) xs))
 
-  pub writes-push : (es : List (Entry (K .State))) (e : Entry (K .State)) → writes (es ++ e ∷ []) ≡ writes es ++ write-of es e ∷ []
-  writes-push es e = push-on [] es e
+  pub writes-append : (xs ys : List (Entry (K .State))) → writes (xs ++ ys) ≡ writes xs ++ writes-on xs ys
+  writes-append xs ys = append-on [] xs ys
 
   length-on : (past es : List (Entry (K .State))) → length (writes-on past es) ≡ length es
   length-on past [] = refl
@@ -48,7 +48,7 @@ module _ {PS PC : Type 0} (K : Model PS PC) where
   pub writes-length : (es : List (Entry (K .State))) → length (writes es) ≡ length es
   writes-length es = length-on [] es
 
-  take-on : (m : ℕ) (past es : List (Entry (K .State))) → take m (writes-on past es) ≡ writes-on past (take m es)
+  pub take-on : (m : ℕ) (past es : List (Entry (K .State))) → take m (writes-on past es) ≡ writes-on past (take m es)
   take-on zero past es = refl
   take-on (suc m) past [] = refl
   take-on (suc m) past (e ∷ es) = ap (λ (us : List (Write PC)). write-of past e ∷ us) (take-on m (past ++ e ∷ []) es)
@@ -138,3 +138,12 @@ module _ {PS PC : Type 0} (K : Model PS PC) where
     -- what the writes up to a moment come to, acting on the origin, is how the cell stood
     pub total-acts : (es : List (Entry (K .State))) (c m : ℕ) → K .act (total K (writes es) c m) (K .origin) ≡ latest (K .origin) c (take m es)
     total-acts es c m = ap (λ us. K .act (composed K (changesTo K c us)) (K .origin)) (take-on m [] es) ∙ acts-on c [] (take m es)
+
+    -- what leads from one moment to another takes the cell from how it stood at the one to how it stood at the other
+    pub onward-acts : (es : List (Entry (K .State))) (c a b : ℕ) →
+        K .act (onward K (total K (writes es) c a) (total K (writes es) c b)) (latest (K .origin) c (take a es)) ≡ latest (K .origin) c (take b es)
+    onward-acts es c a b =
+        let x : K .Change = total K (writes es) c a in
+        let y : K .Change = total K (writes es) c b in
+        ap (K .act (onward K x y)) (sym (total-acts es c a)) ∙ sym (L .then-acts x (onward K x y) (K .origin))
+        ∙ ap (λ f. K .act f (K .origin)) (onward-reaches K L x y) ∙ total-acts es c b

@@ -1,5 +1,15 @@
+pub mod Accepts
+pub mod Alikes
 pub mod Canonical
+pub mod Checked
 pub mod Entered
+pub mod Figures
+pub mod Nth
 pub mod Promised
+pub mod Rebuilt
+pub mod Replayed
+pub mod Reverted
+pub mod Rolled
+pub mod Sound
 pub mod Spanned
 pub mod Written

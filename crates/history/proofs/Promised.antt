@@ -17,11 +17,15 @@ use Rattle.kind.specs.Model.{Model, Laws}
 use Rattle.volume.specs.Calls.{origin}
 use Rattle.volume.specs.Memory.{Memory}
 use Rattle.volume.specs.declared.refusal.Refusal.the-variants.{Cell, Moment, Full}
-use Rattle.history.specs.Calls.{Call, format, write, read, span, Reply, counted, state, change, refused, reply, run, run-all, fed, fed-all, replied, predicted}
+use Rattle.history.specs.Calls.{Call, format, write, read, span, roll, replay, revert, check, Reply, counted, state, change, refused, reply, run, run-all, fed, fed-all, replied, predicted}
 use Rattle.history.specs.History.{History, count, appended, last-entry, latest, stood, image}
 use Rattle.history.specs.Promises.{fresh, Stands, Kept-promises, Promises}
 use Rattle.history.proofs.Canonical.{Canonical, blanked, blank-canonical}
+use Rattle.history.proofs.Checked.{check-told}
 use Rattle.history.proofs.Entered.{writes-head}
+use Rattle.history.proofs.Replayed.{replay-told, replays-there}
+use Rattle.history.proofs.Reverted.{revert-told, revert-keeps}
+use Rattle.history.proofs.Rolled.{roll-told, rolls-there}
 use Rattle.history.proofs.Spanned.{read-no-cell, reads, span-no-cell, span-in, walks, got, got-is, onward-diff, spans-stand, spans-compose}
 use Rattle.history.proofs.Written.{formats, formats-only, write-no-cell, write-full, write-taken, write-canonical}
 
@@ -124,6 +128,10 @@ module _ {PS PC : Type 0} (K : Model PS PC) (L : Laws K) where
     answers (write c s) = write-told c s
     answers (read c) = read-told c
     answers (span c a b) = span-told c a b
+    answers (roll im a b) = roll-told K L C im a b
+    answers (replay im m) = replay-told K L C im m
+    answers (revert m) = revert-told K L C m
+    answers (check work) = check-told K L C work
 
     keeps : (k : Call PS) → Canonical K (fed K h k) (run K v k)
     keeps format =
@@ -133,6 +141,10 @@ module _ {PS PC : Type 0} (K : Model PS PC) (L : Laws K) where
     keeps (write c s) = write-keeps c s
     keeps (read c) = C
     keeps (span c a b) = C
+    keeps (roll im a b) = C
+    keeps (replay im m) = C
+    keeps (revert m) = revert-keeps K L C m
+    keeps (check work) = C
 
     pub kept-promises : Kept-promises K h v
     kept-promises =
@@ -140,6 +152,8 @@ module _ {PS PC : Type 0} (K : Model PS PC) (L : Laws K) where
           stands = record { counts = C .counts; cells = cells-stand; heads = heads-stand; answers = answers };
           spans = λ c x y in′ p q. spans-stand K L C c x y in′ p q;
           compose = λ c x y z in′ p q r. spans-compose K L C c x y z in′ p q r;
+          rolls = λ im x y same p q. rolls-there K L C im x y same p q;
+          replays = λ im x even p. replays-there K L C im x even p;
         }
 
   pub keeps-all : (ks : List (Call PS)) {h : History (K .State)} {v : Memory PS PC} → Canonical K h v → Canonical K (fed-all K h ks) (run-all K v ks)

@@ -15,7 +15,7 @@ use Rattle.kind.specs.Model.{Model, Laws}
 use Rattle.journal.specs.declared.walk.Stretch.{Stretch}
 use Rattle.journal.specs.Spans.{spanned}
 use Rattle.logs.specs.Writes.{Write, headOf}
-use Rattle.logs.proofs.Algebra.{onward, onward-reaches, onward-joins, onward-same}
+use Rattle.logs.proofs.Algebra.{onward, onward-joins}
 use Rattle.logs.proofs.Counted.{total, depth-all}
 use Rattle.logs.proofs.Proved.{span}
 use Rattle.steps.proofs.Proved.{digits-known}
@@ -26,7 +26,7 @@ use Rattle.volume.specs.declared.refusal.Refusal.the-variants.{Cell, Moment, La
 use Rattle.history.specs.History.{History, Entry, count, entries-of, latest, stood}
 use Rattle.history.specs.Promises.{Spans, Composes}
 use Rattle.history.proofs.Canonical.{Canonical, sound-is}
-use Rattle.history.proofs.Entered.{writes, writes-length, writes-count, total-acts}
+use Rattle.history.proofs.Entered.{writes, writes-length, writes-count, onward-acts}
 
 module _ {PS PC : Type 0} (K : Model PS PC) (L : Laws K) {h : History (K .State)} {v : Memory PS PC} (C : Canonical K h v) (c : ℕ) where
   abbrev ws : List (Write PC)
@@ -73,21 +73,17 @@ module _ {PS PC : Type 0} (K : Model PS PC) (L : Laws K) {h : History (K .State)
   abbrev pub T : ℕ → K .Change
   T = total K (writes K (h .entries)) c
 
-  pub T-acts : (m : ℕ) → K .act (T m) (K .origin) ≡ stood K h c m
-  T-acts m = total-acts K L (h .entries) c m
-
   -- what leads from one moment to another is the difference of how the cell stood
   pub onward-diff : (a b : ℕ) → onward K (T a) (T b) ≡ K .diff (stood K h c a) (stood K h c b)
   onward-diff a b =
       L .faithful (onward K (T a) (T b)) (K .diff (stood K h c a) (stood K h c b)) (stood K h c a)
-      (ap (K .act (onward K (T a) (T b))) (sym (T-acts a)) ∙ sym (L .then-acts (T a) (onward K (T a) (T b)) (K .origin))
-      ∙ ap (λ x. K .act x (K .origin)) (onward-reaches K L (T a) (T b)) ∙ T-acts b ∙ sym (L .diff-acts (stood K h c a) (stood K h c b)))
+      (onward-acts K L (h .entries) c a b ∙ sym (L .diff-acts (stood K h c a) (stood K h c b)))
 
   module _ (in′ : c < h .cells) (a b : ℕ) where
     abbrev pub got : Stretch PC
     got = span K L (writes K (h .entries)) (v .records) (C .logs) few c a b .got
 
-    spans : spanned K (v .records) (v .count) (getD (v .heads) c 0) c a b ≡ Ok got
+    pub spans : spanned K (v .records) (v .count) (getD (v .heads) c 0) c a b ≡ Ok got
     spans =
         ap (λ n. spanned K (v .records) n (getD (v .heads) c 0) c a b) (C .counts ∙ sym (writes-length K (h .entries)))
         ∙ ap (λ n. spanned K (v .records) (length ws) n c a b) (C .heads c in′)

@@ -24,9 +24,8 @@ use Rattle.volume.specs.Sizes.{sized, sound}
 use Rattle.volume.specs.declared.refusal.Refusal.{Refusal}
 use Rattle.volume.specs.declared.refusal.Refusal.the-variants.{Cell, Full, Ladder}
 use Rattle.history.specs.History.{History, Entry, count, appended, latest}
-use Rattle.history.specs.Promises.{fresh}
-use Rattle.history.proofs.Canonical.{Sizes, sized-ok, sized-cases, Canonical, sound-is, blanked, blank-canonical}
-use Rattle.history.proofs.Entered.{writes, write-of, writes-push, writes-length, latest-append}
+use Rattle.history.proofs.Canonical.{Sizes, sized-ok, sized-cases, owned-append, Canonical, sound-is, blanked}
+use Rattle.history.proofs.Entered.{writes, write-of, writes-append, writes-length, latest-append}
 
 module _ {PS PC : Type 0} (K : Model PS PC) where
   pub formats : (m : Memory PS PC) → Sizes (length (m .cells)) (length (m .heads)) (length (m .records)) → formatted K m ≡ Ok (blanked K m)
@@ -43,13 +42,13 @@ module _ {PS PC : Type 0} (K : Model PS PC) where
       ]
 
   module _ (L : Laws K) {h : History (K .State)} {v : Memory PS PC} (C : Canonical K h v) (c : ℕ) (s : PS) where
-    abbrev es : List (Entry (K .State))
+    abbrev pub es : List (Entry (K .State))
     es = h .entries
 
-    abbrev ws : List (Write PC)
+    abbrev pub ws : List (Write PC)
     ws = writes K (h .entries)
 
-    abbrev f : PC
+    abbrev pub f : PC
     f = difference K (getD (v .cells) c (origin K)) s
 
     -- the tests of a write, one after the other
@@ -77,10 +76,10 @@ module _ {PS PC : Type 0} (K : Model PS PC) where
       few = omega (arith, size, C .fits, C .all-records, C .sizes .few-records)
 
       -- the record that is logged
-      abbrev r : Record PC
+      abbrev pub r : Record PC
       r = never-refused K L ws (v .records) (C .logs) few c f .0
 
-      plans : planned K (v .records) (v .count + 1) (getD (v .heads) c 0) c f ≡ Ok r
+      pub plans : planned K (v .records) (v .count + 1) (getD (v .heads) c 0) c f ≡ Ok r
       plans =
           ap (λ n. planned K (v .records) (n + 1) (getD (v .heads) c 0) c f) (C .counts ∙ sym size)
           ∙ ap (λ n. planned K (v .records) (length ws + 1) n c f) (C .heads c in′)
@@ -114,7 +113,7 @@ module _ {PS PC : Type 0} (K : Model PS PC) where
       same-change = ap (λ x. K .plain-change (K .diff x (K .state s))) (C .states c in′)
 
       grown : writes K (es ++ e ∷ []) ≡ ws ++ record { cell = c; change = f } ∷ []
-      grown = writes-push K es e ∙ ap (λ g. ws ++ record { cell = c; change = g } ∷ []) (sym same-change)
+      grown = writes-append K es (e ∷ []) ∙ ap (λ g. ws ++ record { cell = c; change = g } ∷ []) (sym same-change)
 
       new-heads : (i : ℕ) → headOf (writes K (es ++ e ∷ [])) i ≡ cond (eqb c i) (length ws + 1) (headOf ws i)
       new-heads i = ap (λ us. headOf us i) grown ∙ head-moves K ws (record { cell = c; change = f }) i
@@ -129,7 +128,7 @@ module _ {PS PC : Type 0} (K : Model PS PC) where
           ∙ take-more-set (v .records) (v .count) r (at-count some)
           ∙ ap (λ n. take n (v .records) ++ r ∷ []) (C .counts ∙ sym size)
           ∙ ap (λ us. us ++ r ∷ []) (C .logs)
-          ∙ sym (ap (logOf K) grown ∙ never-refused K L ws (v .records) (C .logs) few c f .3)
+          ∙ sym (ap (logOf K) grown ∙ never-refused K L ws (v .records) (C .logs) few c f .5)
 
       pub write-canonical : count h < h .capacity → Canonical K (appended h c (K .state s)) after
       write-canonical some =
@@ -145,6 +144,7 @@ module _ {PS PC : Type 0} (K : Model PS PC) where
             };
             counts = ap (λ n. n + 1) (C .counts) ∙ sym (length-push es e);
             fits = omega (arith, length-push es e);
+            owned = owned-append (h .cells) es (e ∷ []) (C .owned) (in′, tt);
             states = λ i l. elim (cases-eq c i) [
               | inl own ↦
                   ap (λ k. K .state (getD (set (v .cells) c s) k (origin K))) (sym own)

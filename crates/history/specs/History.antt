@@ -26,8 +26,11 @@ count h = length (h .entries)
 abbrev pub emptied : {S : Type 0} → History S → History S
 emptied h = record { cells = h .cells; capacity = h .capacity; entries = [] }
 
+abbrev pub extended : {S : Type 0} → History S → List (Entry S) → History S
+extended h es = record { cells = h .cells; capacity = h .capacity; entries = h .entries ++ es }
+
 abbrev pub appended : {S : Type 0} → History S → ℕ → S → History S
-appended h c s = record { cells = h .cells; capacity = h .capacity; entries = h .entries ++ record { cell = c; state = s } ∷ [] }
+appended h c s = extended h (record { cell = c; state = s } ∷ [])
 
 -- the state of the last entry of cell c, or s where there is none
 abbrev pub latest : {S : Type 0} → S → ℕ → List (Entry S) → S

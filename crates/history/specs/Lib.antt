@@ -1,3 +1,5 @@
 pub mod History
 pub mod Calls
 pub mod Promises
+pub mod Soundness
+pub mod Worked

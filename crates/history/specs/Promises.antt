@@ -9,6 +9,8 @@ use Rattle.kind.specs.Model.{Model}
 use Rattle.journal.specs.declared.walk.Stretch.{Stretch}
 use Rattle.volume.specs.Calls.{formatted, change-between}
 use Rattle.volume.specs.Memory.{Memory}
+use Rattle.volume.specs.Replays.{replayed}
+use Rattle.volume.specs.Rolls.{rolled}
 use Rattle.history.specs.History.{History, count, last-entry, entries-of, stood, image}
 use Rattle.history.specs.Calls.{Call, run-all, fed-all, replied, predicted}
 
@@ -46,11 +48,25 @@ module _ {PS PC : Type 0} (K : Model PS PC) where
     pub greatest : entries-of c (h .entries) + 1 < 2 ^ (k + 1)
     pub few-steps : found .steps ≤ 6 * k
 
+  -- An image that counts as the cells at moment x is rolled to one that counts as the cells at moment y.
+  pub record Rolls (h : History (K .State)) (v : Memory PS PC) (im : List PS) (x y : ℕ) : Type 0 where
+    pub moved : List PS
+    pub answered : rolled K v im x y ≡ Ok moved
+    pub there : map (K .state) moved ≡ image K h y
+
+  -- An image of the right length is replayed to one that counts as the cells at moment x.
+  pub record Replays (h : History (K .State)) (v : Memory PS PC) (im : List PS) (x : ℕ) : Type 0 where
+    pub made : List PS
+    pub answered : replayed K v im x ≡ Ok made
+    pub there : map (K .state) made ≡ image K h x
+
   -- What every sequence of calls leaves after a format that is accepted, refused calls included.
   pub record Kept-promises (h : History (K .State)) (v : Memory PS PC) : Type 0 where
     pub stands : Stands h v
     pub spans : (c x y : ℕ) → c < h .cells → x ≤ count h → y ≤ count h → Spans h v c x y
     pub compose : (c x y z : ℕ) → c < h .cells → x ≤ count h → y ≤ count h → z ≤ count h → Composes v c x y z
+    pub rolls : (im : List PS) (x y : ℕ) → map (K .state) im ≡ image K h x → x ≤ count h → y ≤ count h → Rolls h v im x y
+    pub replays : (im : List PS) (x : ℕ) → length im ≡ h .cells → x ≤ count h → Replays h v im x
 
   abbrev pub Promises : Type 0
   Promises =

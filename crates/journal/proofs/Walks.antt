@@ -1,8 +1,10 @@
--- What one step does to the rest of a walk. Assumes nothing.
+-- What one step does to the rest of a walk, and to where it stops. Assumes nothing.
 use mathlib.Core.Path.{_≡_, refl, sym, ap, _∙_}
 use mathlib.Core.Logic.{⊎-elim}
+use mathlib.Core.Bool.{Bool, true, false, cond}
 use mathlib.Core.List.{List}
-use Prim.Native.Nat.{ℕ, zero, suc, _-_, _<_, _≤_}
+use lib.Dec.{leb}
+use Prim.Native.Nat.{ℕ, zero, suc, _+_, _-_, _<_, _≤_}
 use native.Mathlib.Omega.{arith}
 use Rattle.std.specs.declared.result.Result.{Result}
 use Rattle.std.specs.declared.result.Result.the-variants.{Ok, Err}
@@ -13,10 +15,11 @@ use Rattle.std.proofs.shelf.Ways.{tells}
 use Rattle.kind.specs.Model.{Model}
 use Rattle.journal.specs.declared.record.Record.{Record}
 use Rattle.journal.specs.declared.walk.Walked.{Walked}
+use Rattle.journal.specs.declared.walk.Stop.{Stop}
 use Rattle.journal.specs.declared.faults.LadderFault.{LadderFault}
 use Rattle.kind.specs.Answers.{andThen}
 use Rattle.journal.specs.Links.{numbered, follow}
-use Rattle.journal.specs.Spans.{way, moved, step, walk, reach}
+use Rattle.journal.specs.Spans.{way, moved, step, walk, reach, stop-of}
 
 -- what the exit of a `?` returns
 pub exit : {T E : Type 0} (r : Result T E) (f : E) → ErrBy r (λ y. y ≡ f) → r ≡ Err f
@@ -74,3 +77,34 @@ module _ {PS PC : Type 0} (K : Model PS PC) (rs : List (Record PC)) (cell end : 
 
   pub reach-step : (w v : Walked PC) → end < w .place → step K rs cell end w ≡ Ok v → reach K rs cell end w ≡ reach K rs cell end v
   reach-step w v h q = reach-on w h ∙ ap (λ r. andThen r (reach K rs cell end)) q
+
+  -- a walk at record n after so many steps, which took t
+  abbrev standing : ℕ → ℕ → PC → Walked PC
+  standing n steps t = record { place = n; taken = t; steps = steps }
+
+  -- where a walk stops does not depend on what it took
+  walk-stops : (n at steps : ℕ) (t u : PC) → stop-of (walk K n rs cell end (standing at steps t)) ≡ stop-of (walk K n rs cell end (standing at steps u))
+  walk-stops zero at steps t u = refl
+  walk-stops (suc n) at steps t u =
+      go (leb at end) (follow K rs cell (at - 1) at (way end (numbered K rs at))) (λ m. walk-stops n m (steps + 1))
+    where
+      all : Bool → Result ℕ LadderFault → PC → Result Stop LadderFault
+      all b r t = stop-of (cond b (Ok (standing at steps t)) (andThen (andThen r (moved K rs end (standing at steps t))) (walk K n rs cell end)))
+
+      go : (b : Bool) (r : Result ℕ LadderFault)
+          → ((m : ℕ) (t u : PC) → stop-of (walk K n rs cell end (standing m (steps + 1) t)) ≡ stop-of (walk K n rs cell end (standing m (steps + 1) u)))
+          → all b r t ≡ all b r u
+      go true r h = refl
+      go false (Ok m) h = h m _ _
+      go false (Err f) h = refl
+
+  pub stops-on : (at steps n : ℕ) (t : PC) → end < at → follow K rs cell (at - 1) at (way end (numbered K rs at)) ≡ Ok n
+      → stop-of (reach K rs cell end (standing at steps t)) ≡ stop-of (reach K rs cell end (standing n (steps + 1) t))
+  stops-on at steps n t h q =
+      ap stop-of (reach-step (standing at steps t) _ h (ap (λ r. andThen r (moved K rs end (standing at steps t))) q))
+      ∙ walk-stops n n (steps + 1) _ t
+
+  pub stops-fault : (at steps : ℕ) (t : PC) (f : LadderFault) → end < at → follow K rs cell (at - 1) at (way end (numbered K rs at)) ≡ Err f
+      → stop-of (reach K rs cell end (standing at steps t)) ≡ Err f
+  stops-fault at steps t f h q =
+      ap stop-of (reach-fault (standing at steps t) f h (ap (λ r. andThen r (moved K rs end (standing at steps t))) q))

@@ -9,6 +9,7 @@ use Rattle.kind.specs.Answers.{andThen}
 use Rattle.kind.specs.Model.{Model}
 use Rattle.journal.specs.declared.record.Record.{Record}
 use Rattle.journal.specs.declared.walk.Walked.{Walked}
+use Rattle.journal.specs.declared.walk.Stop.{Stop}
 use Rattle.journal.specs.declared.walk.Stretch.{Stretch}
 use Rattle.journal.specs.declared.faults.LadderFault.{LadderFault}
 use Rattle.journal.specs.Links.{newest, numbered, follow}
@@ -61,3 +62,7 @@ module _ {PS PC : Type 0} (K : Model PS PC) where
   -- the change of a cell from moment a to moment b; backwards it is the inverse
   abbrev pub spanned : List (Record PC) → ℕ → ℕ → ℕ → ℕ → ℕ → Result (Stretch PC) LadderFault
   spanned rs count head cell a b = cond (leb a b) (ascent rs count head cell a b) (andThen (ascent rs count head cell b a) turned)
+
+-- where a walk stopped, whatever it took
+abbrev pub stop-of : {C : Type 0} → Result (Walked C) LadderFault → Result Stop LadderFault
+stop-of r = andThen r (λ w. Ok (record { place = w .place; steps = w .steps }))

@@ -3,8 +3,8 @@ ghost use mathlib.Core.Path.{_≡_};
 ghost use lib.ListN.{length};
 ghost use Prim.Native.Nat.{_<_, _≤_, _-_, _+_, _^_};
 ghost use Rattle.std.specs.Vec.{made};
-ghost use Rattle.journal.specs.Links.{newest, good, follow};
-ghost use Rattle.journal.specs.Spans.{way, taking, started, step, reach, ascent, spanned};
+ghost use Rattle.journal.specs.Links.{newest, good, numbered, follow};
+ghost use Rattle.journal.specs.Spans.{way, taking, started, step, reach, ascent, spanned, stop-of};
 use crate::faults::LadderFault;
 use crate::record::Record;
 use crate::record::cell_of;
@@ -17,6 +17,13 @@ pub struct Walked<C> {
     pub place: u32,
     pub taken: C,
     pub steps: u32,
+}
+
+// Where a walk stops, and in how many steps it came there.
+#[derive(Clone, Copy)]
+struct Stop {
+    place: u32,
+    steps: u32,
 }
 
 // What is composed from a cell's records between two moments, and in how many steps it was found.
@@ -82,6 +89,21 @@ fn taken_at<C>(r: &Record<C>, end: u32) -> &C
     if r.foot > end { &r.fold } else { &r.change }
 }
 
+// The record that a walk to `end` goes on to from record `place`.
+fn next_place<K: Kind>(
+    records: &[Record<K::Change>],
+    cell: u16,
+    end: u32,
+    place: u32,
+) -> Result<u32, LadderFault>
+    requires { ⌜ 0 < place ⌝ ∗ ⌜ place ≤ length (now records) ⌝ }
+    ensures answer { λ r. ⌜ r ≡ follow (K·Kind .model) (now (records .entry)) cell (place - 1) place (way end (numbered (K·Kind .model) (now (records .entry)) place)) ⌝ }
+    ensures low { λ r. ⌜ made r (λ n. n < place) ⌝ }
+{
+    let link = link_toward(&records[place_of(place as usize)], end);
+    follow_link::<K>(records, cell, place - 1, place, link)
+}
+
 // One step of a walk to `end`, from the record that it stands at.
 fn step_down<K: Kind>(
     records: &[Record<K::Change>],
@@ -93,9 +115,8 @@ fn step_down<K: Kind>(
     ensures answer { λ r. ⌜ r ≡ step (K·Kind .model) (now (records .entry)) cell end (now (from .entry)) ⌝ }
     ensures low { λ r. ⌜ made r (λ w. (w .place < now (from .entry) .place) × (w .steps ≡ now (from .entry) .steps + 1)) ⌝ }
 {
+    let place = next_place::<K>(records, cell, end, from.place)?;
     let here = &records[place_of(from.place as usize)];
-    let link = link_toward(here, end);
-    let place = follow_link::<K>(records, cell, from.place - 1, from.place, link)?;
     Ok(Walked {
         place,
         taken: K::then(taken_at(here, end), &from.taken),
@@ -125,6 +146,26 @@ fn walk<K: Kind>(
     Ok(at)
 }
 
+// Where a walk from record `start` down to `end` stops; it takes no changes.
+fn descend<K: Kind>(
+    records: &[Record<K::Change>],
+    cell: u16,
+    start: u32,
+    end: u32,
+) -> Result<Stop, LadderFault>
+    requires { ⌜ start ≤ length (now records) ⌝ }
+    ensures answer { λ r. ⌜ r ≡ stop-of (reach (K·Kind .model) (now (records .entry)) cell end (started (K·Kind .model) start)) ⌝ }
+    ensures low { λ r. ⌜ made r (λ s. s .steps + s .place ≤ start) ⌝ }
+{
+    let mut place = start;
+    let mut steps = 0;
+    while place > end {
+        place = next_place::<K>(records, cell, end, place)?;
+        steps += 1;
+    }
+    Ok(Stop { place, steps })
+}
+
 // The changes after moment `low` up to moment `high`: from the head to `high`, then on to `low`.
 fn climb<K: Kind>(
     records: &[Record<K::Change>],
@@ -138,7 +179,7 @@ fn climb<K: Kind>(
 {
     let newest = newest_number(records, count);
     let start = follow_link::<K>(records, cell, newest, 0, head)?;
-    let top = walk::<K>(records, cell, start, high)?;
+    let top = descend::<K>(records, cell, start, high)?;
     let rest = walk::<K>(records, cell, top.place, low)?;
     Ok(Stretch {
         change: rest.taken,

@@ -12,7 +12,7 @@ use lib.ListN.{length, getD, set, take}
 use Rattle.std.proofs.shelf.Lists.{ext-getD, length-map, getD-set-same, getD-set-other, take-all}
 use Rattle.std.proofs.shelf.Tests.{cases-eq, eq-eqb, ne-eqb}
 use Rattle.kind.specs.Arrangements.{arrangement?, place, count, through, inverted}
-use Rattle.kind.specs.laws.Arrangements.{bit, arr-low, arr-place, arr-apart, arr-once, arrangement-from-counts, count-more, count-front, getD-through, getD-inverted, length-inverted}
+use Rattle.kind.specs.laws.Arrangements.{bit, bit-le, arr-low, arr-place, arr-apart, arr-once, arrangement-from-counts, count-more, count-front, getD-through, getD-inverted, length-inverted}
 
 pub through-all : (f g out : List ℕ) → length f ≡ 16 → length out ≡ 16 → ((k : ℕ) → k < 16 → getD out k 0 ≡ getD g (getD f k 0) 0) → out ≡ through f g
 through-all f g out n m h =
@@ -36,11 +36,11 @@ module _ (f : List ℕ) (ok : arrangement? f ≡ true) where
       let at = arr-place f ok k k′ in
       ap (λ j. getD out j 0) (sym (at .1)) ∙ h (place k f) (at .0) ∙ sym (getD-inverted f k k′))
 
--- the loop that finds out whether a list is an arrangement: `seen` says which numbers have been met
 pub refuted : (b : Bool) → (b ≡ true → ⊥) → false ≡ b
 refuted true h = absurd (h refl)
 refuted false h = refl
 
+-- the loop that finds out whether a list is an arrangement: `seen` says which numbers have been met
 module _ (xs : List ℕ) (n : length xs ≡ 16) (i : ℕ) (p : i < 16) where
   pub too-high : 16 ≤ getD xs i 0 → false ≡ arrangement? xs
   too-high h = refuted (arrangement? xs) (λ ok. let l = arr-low xs ok i p in omega arith)
@@ -73,14 +73,10 @@ module _ (xs : List ℕ) (n : length xs ≡ 16) (i : ℕ) (p : i < 16) where
           let s : bit (getD (set seen (getD xs i 0) true) k false) ≡ bit (getD seen k false) = ap bit (getD-set-other seen (getD xs i 0) k true false (λ d. e (sym d))) in
           omega arith
 
-bit-few : (b : Bool) → bit b ≤ 1
-bit-few true = omega arith
-bit-few false = omega arith
-
 pub seen-all : (xs : List ℕ) (seen : List Bool) (i : ℕ) → length xs ≡ 16 → 16 ≤ i → ((k : ℕ) → k < 16 → count k (take i xs) ≡ bit (getD seen k false)) → ((j : ℕ) → j < i → getD xs j 0 < 16) → true ≡ arrangement? xs
 seen-all xs seen i n p h low =
     sym (arrangement-from-counts xs n (λ j l. low j (omega arith)) (λ k l.
     let e = h k l in
     let t : count k (take i xs) ≡ count k xs = ap (count k) (take-all i xs (omega arith)) in
-    let f = bit-few (getD seen k false) in
+    let f = bit-le (getD seen k false) in
     omega arith))

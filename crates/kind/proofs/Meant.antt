@@ -145,6 +145,7 @@ arranged f = arrangements-permute f .1
 map-itself : (f : List ℕ) → Permutes f → taken in-order f .list ≡ f
 map-itself f p = taken-list in-order f (arranged f p)
 
+-- r permutes, and has at place `from i` the number `to i`
 abbrev At : List ℕ → (ℕ → ℕ) → (ℕ → ℕ) → Type 0
 At r from to = Permutes r × ((i : ℕ) → i < 16 → getD r (from i) 0 ≡ to i)
 

@@ -4,8 +4,8 @@ use mathlib.Core.List.{List, [], _∷_, _++_}
 use mathlib.Core.Logic.{inl, inr}
 use Prim.Native.Nat.{ℕ, _+_, _-_, _≤_, _<_}
 use native.Mathlib.Omega.{arith}
-use lib.ListN.{length, getD}
-use Rattle.std.proofs.shelf.Lists.{append-assoc, append-nil, length-push, length-take, getD-append-left, getD-push, getD-take}
+use lib.ListN.{length, getD, take}
+use Rattle.std.proofs.shelf.Lists.{append-assoc, append-nil, length-append, length-push, length-take, getD-append-left, getD-push, getD-take, take-all, take-at, take-take}
 use Rattle.std.proofs.shelf.Tests.{cases-lt, cases-eq}
 use Rattle.std.specs.declared.result.Result.the-variants.{Ok}
 use Rattle.kind.specs.Model.{Model, Laws}
@@ -101,6 +101,31 @@ module _ {PS PC : Type 0} (K : Model PS PC) (L : Laws K) where
       log-push (past ++ u ∷ []) (log ++ entered K past log u ∷ []) ws w
       ∙ ap (λ us. logOn K past log (u ∷ ws) ++ entered K us (logOn K past log (u ∷ ws)) w ∷ []) (append-assoc past (u ∷ []) ws)
 
+  -- the log of the first writes is the first part of the log
+  log-append : (past : List (Write PC)) (log : List (Record PC)) (us vs : List (Write PC)) → logOn K past log (us ++ vs) ≡ logOn K (past ++ us) (logOn K past log us) vs
+  log-append past log [] vs = ap (λ ps. logOn K ps log vs) (sym (append-nil past))
+  log-append past log (u ∷ us) vs =
+      log-append (past ++ u ∷ []) (log ++ entered K past log u ∷ []) us vs
+      ∙ ap (λ ps. logOn K ps (logOn K past log (u ∷ us)) vs) (append-assoc past (u ∷ []) us)
+
+  log-front : (past : List (Write PC)) (log : List (Record PC)) (ws : List (Write PC)) → take (length log) (logOn K past log ws) ≡ log
+  log-front past log [] = take-all (length log) log (omega arith)
+  log-front past log (w ∷ ws) =
+      let r : Record PC = entered K past log w in
+      let whole : List (Record PC) = logOn K (past ++ w ∷ []) (log ++ r ∷ []) ws in
+      sym (take-take (length log) (length (log ++ r ∷ [])) whole (omega (arith, length-push log r)))
+      ∙ ap (take (length log)) (log-front (past ++ w ∷ []) (log ++ r ∷ []) ws)
+      ∙ take-at log (r ∷ []) (length log) refl
+
+  pub logs-front : (us vs : List (Write PC)) (rs : List (Record PC)) → Logs K rs (us ++ vs) → Logs K rs us
+  logs-front us vs rs e =
+      let n : ℕ = length us in
+      let m : ℕ = length (us ++ vs) in
+      sym (take-take n m rs (omega (arith, length-append us vs)))
+      ∙ ap (take n) (e ∙ log-append [] [] us vs)
+      ∙ ap (λ k. take k (logOn K us (logOf K us) vs)) (sym (logs-length us))
+      ∙ log-front us (logOf K us) vs
+
   -- records that begin with the log
   module _ (ws : List (Write PC)) (rs : List (Record PC)) (e : Logs K rs ws) where
     pub log-fits : length ws ≤ length rs
@@ -113,9 +138,9 @@ module _ {PS PC : Type 0} (K : Model PS PC) (L : Laws K) where
     records-leave rest room = leaves-same K (ws ++ rest) (logOf K ws) rs (length ws) records-same (log-leaves ws rest room)
 
     pub grows : (w : Write PC) → length ws ≤ 65535 →
-        (r : Record PC) × (planned K rs (length ws + 1) (headOf ws (w .cell)) (w .cell) (w .change) ≡ Ok r) × (r .next ≡ headOf ws (w .cell)) × (logOf K (ws ++ w ∷ []) ≡ logOf K ws ++ r ∷ [])
+        (r : Record PC) × (planned K rs (length ws + 1) (headOf ws (w .cell)) (w .cell) (w .change) ≡ Ok r) × (r .next ≡ headOf ws (w .cell)) × (r .cell ≡ w .cell) × (r .change ≡ w .change) × (logOf K (ws ++ w ∷ []) ≡ logOf K ws ++ r ∷ [])
     grows w room =
         let P = plans ws w [] rs log-fits room (records-leave (w ∷ []) (omega arith)) in
         let same : planned K (logOf K ws) (length ws + 1) (headOf ws (w .cell)) (w .cell) (w .change) ≡ Ok (P .made) =
         planned-same K (logOf K ws) rs (length ws) (omega (arith, logs-length ws)) log-fits records-same (headOf ws (w .cell)) (w .cell) (w .change) ∙ P .answer in
-        (P .made, P .answer, P .leads, log-push [] [] ws w ∙ ap (λ r. logOf K ws ++ kept (blank K) r ∷ []) same)
+        (P .made, P .answer, P .leads, P .of-cell, P .logs, log-push [] [] ws w ∙ ap (λ r. logOf K ws ++ kept (blank K) r ∷ []) same)

@@ -3,27 +3,43 @@ use mathlib.Core.Path.{_≡_, refl, sym, ap, subst, _∙_}
 use mathlib.Core.Bool.{Bool, cond}
 use mathlib.Core.List.{List, [], _∷_, _++_}
 use mathlib.Core.Logic.{inl, inr}
-use Prim.Native.Nat.{ℕ, _+_, _*_, _≤_}
+use Prim.Native.Nat.{ℕ, _+_, _-_, _*_, _≤_}
 use native.Mathlib.Omega.{arith}
 use lib.Dec.{eqb, ltb}
-use lib.ListN.{length}
-use Rattle.std.proofs.shelf.Lists.{append-nil}
+use lib.ListN.{length, getD}
+use Rattle.std.proofs.shelf.Lists.{append-nil, append-assoc, length-append, length-push, getD-push, getD-take}
 use Rattle.std.proofs.shelf.Tests.{cases-bool, lt-ltb, cond-true, cond-false}
 use Rattle.std.specs.declared.result.Result.the-variants.{Ok}
 use Rattle.kind.specs.Model.{Model, Laws}
 use Rattle.journal.specs.declared.record.Record.{Record}
 use Rattle.journal.specs.declared.walk.Stretch.{Stretch}
+use Rattle.journal.specs.Links.{blank, numbered}
 use Rattle.journal.specs.Spans.{spanned}
-use Rattle.logs.specs.Writes.{Write, headAfter, headOf}
-use Rattle.logs.specs.Theorems.{Logs, Never-refused, Head-moves, Spans-right, Steps-few}
+use Rattle.logs.specs.Writes.{Write, headAfter, headOf, logOf}
+use Rattle.logs.specs.Theorems.{Logs, Never-refused, Head-moves, Spans-right, Steps-few, Each-record}
 use Rattle.logs.proofs.Algebra.{onward, onward-back}
 use Rattle.logs.proofs.Counted.{Place, depth, total, depth-all, depth-last, between-is, head-place}
-use Rattle.logs.proofs.Logs.{story, Leaves, records-leave, log-fits, grows}
+use Rattle.logs.proofs.Logs.{story, Leaves, records-leave, log-fits, logs-length, logs-front, grows}
 use Rattle.logs.proofs.Spans.{Spanned, span-right}
 
 module _ {PS PC : Type 0} (K : Model PS PC) (L : Laws K) where
   pub never-refused : Never-refused K
   never-refused ws rs e room c f = grows K L ws rs e (record { cell = c; change = f }) room
+
+  pub each-record : Each-record K
+  each-record us w vs rs e room =
+      let n : ℕ = length us in
+      let shorter : n + 1 ≤ 65535 = omega (arith, length-append us (w ∷ vs)) in
+      let one : us ++ w ∷ vs ≡ (us ++ w ∷ []) ++ vs = sym (append-assoc us (w ∷ []) vs) in
+      let front : Logs K rs us = logs-front K L us (w ∷ vs) rs e in
+      let more : Logs K rs (us ++ w ∷ []) = logs-front K L (us ++ w ∷ []) vs rs (subst (Logs K rs) one e) in
+      let (r, answer, _, cell, change, grown) = grows K L us rs front w (omega arith) in
+      let size = logs-length K L us in
+      let same : numbered K rs (n + 1) ≡ r =
+      sym (getD-take (length (us ++ w ∷ [])) rs (n + 1 - 1) (blank K) (omega (arith, length-push us w)))
+      ∙ ap (λ ts. getD ts (n + 1 - 1) (blank K)) (more ∙ grown)
+      ∙ getD-push (logOf K us) r (blank K) (n + 1 - 1) (omega arith) in
+      (answer ∙ ap Ok (sym same), ap (λ (x : Record PC). x .cell) same ∙ cell, ap (λ (x : Record PC). x .change) same ∙ change)
 
   -- the spans of a cell
   module _ (ws : List (Write PC)) (rs : List (Record PC)) (e : Logs K rs ws) (room : length ws ≤ 65535) (c : ℕ) where

@@ -137,6 +137,8 @@ module _ {PS PC : Type 0} (K : Model PS PC) (L : Laws K) (D : ℕ → ℕ) (T : 
         pub made : Record PC
         pub answer : planned K rs (n + 1) h c f ≡ Ok made
         pub leads : made .next ≡ h
+        pub of-cell : made .cell ≡ c
+        pub logs : made .change ≡ f
         pub rung : Rung K D T c (n + 1) made
 
       low : h ≤ n
@@ -153,6 +155,8 @@ module _ {PS PC : Type 0} (K : Model PS PC) (L : Laws K) (D : ℕ → ℕ) (T : 
             made = lone c (n + 1) h f;
             answer = from-head ∙ cond-true (eqb h 0) (Ok (lone c (n + 1) h f)) (over K rs (n + 1) h c f) (eq-eqb h 0 z);
             leads = refl;
+            of-cell = refl;
+            logs = refl;
             rung = lone-rung (let e : D n ≡ 0 = place-none (D n) h head z in ap (λ d. reach (d + 1)) e);
           }
 
@@ -186,7 +190,7 @@ module _ {PS PC : Type 0} (K : Model PS PC) (L : Laws K) (D : ℕ → ℕ) (T : 
             (link-good c rs n F (h - 1) h (p .skip) (D h - reach (D h)) (omega (arith, low)) (omega (arith, below)) (P .to-skip))
 
         by-itself : planned K rs (n + 1) h c f ≡ alone → reach (D n + 1) ≡ 1 → Planned
-        by-itself e one = record { made = lone c (n + 1) h f; answer = e; leads = refl; rung = lone-rung one }
+        by-itself e one = record { made = lone c (n + 1) h f; answer = e; leads = refl; of-cell = refl; logs = refl; rung = lone-rung one }
 
         -- the depth of the head, and of where it skips to
         jumps : D (p .skip) ≡ D n - reach (D n)
@@ -225,6 +229,8 @@ module _ {PS PC : Type 0} (K : Model PS PC) (L : Laws K) (D : ℕ → ℕ) (T : 
                     from-both ∙ cond-true (eqb (p .length) (q .length)) (joined K c h p q f) alone (eq-eqb (p .length) (q .length) same)
                     ∙ cond-false (ltb 65535 (1 + p .length + q .length)) (Err (Length c h)) (Ok big) (le-ltb 65535 (1 + p .length + q .length) short);
                 leads = refl;
+                of-cell = refl;
+                logs = refl;
                 rung = merged-rung p q P m Q wide;
               }
 

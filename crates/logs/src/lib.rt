@@ -1,6 +1,6 @@
 // What the journal makes of a log that writes left: each theorem stands on the contract of a function, and specs/Theorems.antt states it.
 
-ghost use Rattle.logs.specs.Theorems.{Never-refused, Head-moves, Spans-right, Steps-few};
+ghost use Rattle.logs.specs.Theorems.{Never-refused, Head-moves, Spans-right, Steps-few, Each-record};
 use kind::Kind;
 
 // A log left by writes takes one more.
@@ -27,6 +27,13 @@ pub fn spans_right<K: Kind>() -> u8
 // A span takes few steps.
 pub fn steps_few<K: Kind>() -> u8
     ensures { λ _. ⌜ Steps-few (K·Kind .model) ⌝ }
+{
+    0
+}
+
+// Each record is the one that its write makes.
+pub fn each_record<K: Kind>() -> u8
+    ensures { λ _. ⌜ Each-record (K·Kind .model) ⌝ }
 {
     0
 }

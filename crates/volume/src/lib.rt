@@ -1,7 +1,11 @@
 // A volume: cells with the log of their changes, in memory that the caller lends.
 mod calls;
+mod checks;
 mod parts;
 pub mod refusal;
+mod replays;
+mod rolls;
+mod reverts;
 mod sizes;
 
 ghost use mathlib.Core.Path.{_≡_};
