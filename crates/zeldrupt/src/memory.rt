@@ -34,9 +34,9 @@ pub struct Memory<K: Notation> {
     work: Vec<u32>,
 }
 
-fn filled<T: Copy>(heap: Global, x: T, n: u32) -> Result<Vec<T>, AllocError> {
+fn filled<T: Copy>(heap: Global, x: T, n: usize) -> Result<Vec<T>, AllocError> {
     let mut row = Vec::new(heap);
-    row.resize(n as usize, x)?;
+    row.resize(n, x)?;
     Ok(row)
 }
 
@@ -84,11 +84,11 @@ impl<K: Notation> Memory<K> {
         }
         Ok(Memory {
             heap,
-            cells: filled(heap, K::zero_state(), cells)?,
-            heads: filled(heap, 0, heads)?,
-            records: filled(heap, zero_record::<K>(), capacity)?,
+            cells: filled(heap, K::zero_state(), cells as usize)?,
+            heads: filled(heap, 0, heads as usize)?,
+            records: filled(heap, zero_record::<K>(), capacity as usize)?,
             count: 0,
-            image: filled(heap, K::zero_state(), cells)?,
+            image: filled(heap, K::zero_state(), cells as usize)?,
             work: Vec::new(heap),
         })
     }
@@ -136,6 +136,58 @@ impl<K: Notation> Memory<K> {
         ).span(cell, from, to, &mut place)?;
         let change = K::show_change(self.heap, &place)?;
         Ok(format!(self.heap, "change {change}, steps {steps}")?)
+    }
+
+    fn revert(&mut self, moment: u32) -> Result<String, Fault> {
+        let count = Volume::<K>::over(
+            &mut self.cells,
+            &mut self.heads,
+            &mut self.records,
+            &mut self.count,
+        )
+        .revert(moment)?;
+        Ok(format!(self.heap, "count {count}")?)
+    }
+
+    fn check(&mut self, length: Option<u32>) -> Result<String, Fault> {
+        let length = match length {
+            Some(n) => n as usize,
+            None => self.cells.len(),
+        };
+        if length > LIMIT as usize {
+            return Err(Fault::Large);
+        }
+        self.work = filled(self.heap, 0, length)?;
+        Volume::<K>::over(
+            &mut self.cells,
+            &mut self.heads,
+            &mut self.records,
+            &mut self.count,
+        )
+        .check(&mut self.work)?;
+        Ok(String::from_str(self.heap, "sound")?)
+    }
+
+    fn roll(&mut self, from: u32, to: u32) -> Result<String, Fault> {
+        Volume::<K>::over(
+            &mut self.cells,
+            &mut self.heads,
+            &mut self.records,
+            &mut self.count,
+        )
+        .roll(&mut self.image, from, to)?;
+        Ok(String::from_str(self.heap, "rolled")?)
+    }
+
+    fn replay(&mut self, moment: u32) -> Result<String, Fault> {
+        Volume::<K>::over(
+            &mut self.cells,
+            &mut self.heads,
+            &mut self.records,
+            &mut self.count,
+        )
+        .replay(&mut self.image, moment)?;
+        Ok(String::from_str(self.heap, "replayed")?)
     }
 
     fn image_live(&mut self) -> Result<String, Fault> {
@@ -209,6 +261,10 @@ impl<K: Notation> Memory<K> {
             Command::Write { cell, state } => self.write(cell, state),
             Command::Read { cell } => self.read(cell),
             Command::Span { cell, from, to } => self.span(cell, from, to),
+            Command::Revert { moment } => self.revert(moment),
+            Command::Check { work } => self.check(work),
+            Command::Roll { from, to } => self.roll(from, to),
+            Command::Replay { moment } => self.replay(moment),
             Command::Work => Ok(lists::numbers(self.heap, &self.work)?),
             Command::Image => Ok(lists::states::<K>(self.heap, &self.image)?),
             Command::ImageLive => self.image_live(),
