@@ -144,8 +144,7 @@ impl<K: Notation> Memory<K> {
             &mut self.heads,
             &mut self.records,
             &mut self.count,
-        )
-        .revert(moment)?;
+        ).revert(moment)?;
         Ok(format!(self.heap, "count {count}")?)
     }
 
@@ -163,8 +162,7 @@ impl<K: Notation> Memory<K> {
             &mut self.heads,
             &mut self.records,
             &mut self.count,
-        )
-        .check(&mut self.work)?;
+        ).check(&mut self.work)?;
         Ok(String::from_str(self.heap, "sound")?)
     }
 
@@ -174,8 +172,7 @@ impl<K: Notation> Memory<K> {
             &mut self.heads,
             &mut self.records,
             &mut self.count,
-        )
-        .roll(&mut self.image, from, to)?;
+        ).roll(&mut self.image, from, to)?;
         Ok(String::from_str(self.heap, "rolled")?)
     }
 
@@ -185,8 +182,7 @@ impl<K: Notation> Memory<K> {
             &mut self.heads,
             &mut self.records,
             &mut self.count,
-        )
-        .replay(&mut self.image, moment)?;
+        ).replay(&mut self.image, moment)?;
         Ok(String::from_str(self.heap, "replayed")?)
     }
 
