@@ -31,6 +31,7 @@ module _ {PS PC : Type 0} (K : Model PS PC) (rs : List (Record PC)) (i : ℕ) wh
       let low = known-low cells (each-at (cell-known K cells rs) moment i e l .1) in
       omega (arith, ap (λ x. x .cell) q)
 
-  pub plays-more : (cells : ℕ) (image after : List PS) (r : Record PC) → image ≡ played-to K cells rs i → r ≡ numbered K rs (i + 1) → after ≡ played K image r → after ≡ played-to K cells rs (i + 1)
+  pub plays-more : (cells : ℕ) (image after : List PS) (r : Record PC)
+      → image ≡ played-to K cells rs i → r ≡ numbered K rs (i + 1) → after ≡ played K image r → after ≡ played-to K cells rs (i + 1)
   plays-more cells image after r e q a =
       a ∙ ap (λ x. played K x r) e ∙ ap (played K (played-to K cells rs i)) (q ∙ ap (numbered K rs) (add-one i)) ∙ sym (ap (played-to K cells rs) (add-one i))

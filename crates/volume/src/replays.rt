@@ -1,7 +1,7 @@
 // Replay: an image made from the records up to a moment.
 ghost use mathlib.Core.Path.{_≡_};
 ghost use lib.ListN.{length};
-ghost use Prim.Native.Nat.{_<_, _≤_};
+ghost use Prim.Native.Nat.{_<_, _≤_, _-_, _^_};
 ghost use Rattle.kind.specs.Answers.{each-below, told, kept};
 ghost use Rattle.std.specs.declared.result.Result.the-variants.{Ok};
 ghost use Rattle.volume.specs.Memory.{held};
@@ -23,7 +23,7 @@ fn try_record<K: Kind>(
     cells: usize,
     i: u32,
 ) -> Result<(), LadderFault>
-    requires { ⌜ i < length (now records) ⌝ ∗ ⌜ i < 65535 ⌝ }
+    requires { ⌜ i < length (now records) ⌝ ∗ ⌜ i < 2 ^ 32 - 1 ⌝ }
     ensures { λ r. ⌜ r ≡ cell-known (K·Kind .model) cells (now (records .entry)) i ⌝ }
 {
     let number = i + 1;
@@ -33,13 +33,13 @@ fn try_record<K: Kind>(
     Ok(())
 }
 
-// Whether records 1 to `moment` are; the lowest that is not is the fault.
+// Tries records 1 to `moment`; the lowest that is of no cell is the fault.
 fn try_records<K: Kind>(
     records: &[Record<K::Change>],
     cells: usize,
     moment: u32,
 ) -> Result<(), LadderFault>
-    requires { ⌜ moment ≤ length (now records) ⌝ ∗ ⌜ moment ≤ 65535 ⌝ }
+    requires { ⌜ moment ≤ length (now records) ⌝ }
     ensures { λ r. ⌜ r ≡ each-below (cell-known (K·Kind .model) cells (now (records .entry))) moment ⌝ }
 {
     for i in 0..moment {

@@ -2,12 +2,12 @@
 ghost use mathlib.Core.Path.{_≡_};
 ghost use mathlib.Core.List.{map};
 ghost use lib.ListN.{length, getD, set};
-ghost use Prim.Native.Nat.{_<_, _≤_};
+ghost use Prim.Native.Nat.{_<_, _≤_, _^_};
 ghost use Rattle.std.specs.Iters.{counting};
 ghost use Rattle.kind.specs.Answers.{each-below, told, kept};
 ghost use Rattle.volume.specs.Calls.{origin};
 ghost use Rattle.volume.specs.Memory.{held};
-ghost use Rattle.volume.specs.Rolls.{acted, across, swept, moved, rolled};
+ghost use Rattle.volume.specs.Rolls.{across, swept, moved, rolled};
 use crate::Volume;
 use crate::refusal::Refusal;
 use crate::refusal::RefusalFromLadder;
@@ -17,18 +17,10 @@ use journal::walk::Stretch;
 use journal::walk::span;
 use kind::Kind;
 
-// Acts with a span on the state of its cell.
-fn sweep_state<K: Kind>(image: &mut [K::State], i: usize, change: &K::Change)
-    requires { ⌜ i < length (now image) ⌝ }
-    ensures { λ _. ⌜ now (image .exit) ≡ set (now (image .entry)) i (acted (K·Kind .model) (now (change .entry)) (getD (now (image .entry)) i (origin (K·Kind .model)))) ⌝ }
-{
-    image[i] = K::act(change, &image[i]);
-}
-
 impl<'a, K: Kind> Volume<'a, K> {
     // The change of cell `i` from moment `a` to moment `b`.
     fn cell_span(&self, i: usize, a: u32, b: u32) -> Result<Stretch<K::Change>, LadderFault>
-        requires { ⌜ i < length (now (now self .heads)) ⌝ ∗ ⌜ i < 4096 ⌝ }
+        requires { ⌜ i < length (now (now self .heads)) ⌝ ∗ ⌜ i < 2 ^ 16 ⌝ }
         ensures { λ r. ⌜ r ≡ across (K·Kind .model) (held (now (self .entry))) a b i ⌝ }
     {
         let head = self.heads[i];
@@ -38,7 +30,7 @@ impl<'a, K: Kind> Volume<'a, K> {
 
     // Tries the span of each cell; the fault of the lowest that has one.
     fn try_cells(&self, cells: usize, a: u32, b: u32) -> Result<(), LadderFault>
-        requires { ⌜ cells ≤ length (now (now self .heads)) ⌝ ∗ ⌜ cells ≤ 4096 ⌝ }
+        requires { ⌜ cells ≤ length (now (now self .heads)) ⌝ ∗ ⌜ cells ≤ 2 ^ 16 ⌝ }
         ensures { λ r. ⌜ r ≡ each-below (across (K·Kind .model) (held (now (self .entry))) a b) cells ⌝ }
     {
         for i in 0..cells {
@@ -49,17 +41,17 @@ impl<'a, K: Kind> Volume<'a, K> {
 
     // Acts on the state of cell `i` with its span; no fault comes where every cell was tried.
     fn sweep_cell(&self, image: &mut [K::State], i: usize, a: u32, b: u32)
-        requires { ⌜ i < length (now image) ⌝ ∗ ⌜ i < length (now (now self .heads)) ⌝ ∗ ⌜ i < 4096 ⌝ }
+        requires { ⌜ i < length (now image) ⌝ ∗ ⌜ i < length (now (now self .heads)) ⌝ ∗ ⌜ i < 2 ^ 16 ⌝ }
         ensures { λ _. ⌜ now (image .exit) ≡ set (now (image .entry)) i (swept (K·Kind .model) (across (K·Kind .model) (held (now (self .entry))) a b i) (getD (now (image .entry)) i (origin (K·Kind .model)))) ⌝ }
     {
         if let Ok(found) = self.cell_span(i, a, b) {
-            sweep_state::<K>(image, i, &found.change);
+            image[i] = K::act(&found.change, &image[i]);
         }
     }
 
     // Acts on each state with its cell's span.
     fn sweep(&self, image: &mut [K::State], a: u32, b: u32)
-        requires { ⌜ length (now image) ≤ length (now (now self .heads)) ⌝ ∗ ⌜ length (now image) ≤ 4096 ⌝ }
+        requires { ⌜ length (now image) ≤ length (now (now self .heads)) ⌝ ∗ ⌜ length (now image) ≤ 2 ^ 16 ⌝ }
         ensures { λ _. ⌜ now (image .exit) ≡ map (λ c. swept (K·Kind .model) (across (K·Kind .model) (held (now (self .entry))) a b c) (getD (now (image .entry)) c (origin (K·Kind .model)))) (counting 0 (length (now (image .entry)))) ⌝ }
     {
         for i in 0..image.len() {
