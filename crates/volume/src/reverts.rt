@@ -57,10 +57,10 @@ impl<'a, K: Kind> Volume<'a, K> {
         ensures low { λ r. ⌜ made r (λ n. n ≤ 1) ⌝ }
     {
         let target = self.earlier(from, to, i)?;
-        if self.stands(i, &target) {
+        let state = state_at::<K>(self.cells, i);
+        if K::same_state(&state, &target) {
             return Ok(0);
         }
-        let state = state_at::<K>(self.cells, i);
         let change = K::difference(&state, &target);
         let head = self.heads[i];
         let _ = next_record::<K>(self.records, from + 1, head, i as u16, &change)?;
