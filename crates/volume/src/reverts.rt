@@ -82,7 +82,7 @@ impl<'a, K: Kind> Volume<'a, K> {
         Ok(writes)
     }
 
-    // Writes a cell back where it stands otherwise.
+    // Writes a cell back where it stands otherwise. A refusal would leave it as it is; where every cell was tried before, none comes.
     fn restore(&mut self, from: u32, to: u32, i: usize)
         requires there { ⌜ i < length (now (now self .cells)) ⌝ }
         requires few { ⌜ length (now (now self .cells)) ≤ 4096 ⌝ }
