@@ -1,6 +1,6 @@
 -- Cells that are counted and written back one after the other. Assumes nothing.
 use mathlib.Core.Path.{_≡_, refl, sym, ap, _∙_}
-use mathlib.Core.Bool.{Bool, true, false, cond}
+use mathlib.Core.Bool.{cond}
 use mathlib.Core.List.{List}
 use mathlib.Core.Logic.{inl, inr}
 use Prim.Native.Nat.{ℕ, zero, suc, _+_, _<_}
@@ -8,7 +8,7 @@ use native.Mathlib.Numerals.{add-one}
 use native.Mathlib.Omega.{arith}
 use lib.Dec.{leb}
 use lib.ListN.{length, getD, set, length-set}
-use Rattle.std.proofs.shelf.Tests.{cases-lt}
+use Rattle.std.proofs.shelf.Tests.{cases-lt, cond-both}
 use Rattle.std.specs.Vec.{made}
 use Rattle.std.specs.declared.result.Result.{Result}
 use Rattle.std.specs.declared.result.Result.the-variants.{Ok, Err}
@@ -26,10 +26,6 @@ use Rattle.volume.specs.Sizes.{sound}
 made-then : {A B E : Type 0} (P : B → Type 0) (r : Result A E) (f : A → Result B E) → ((x : A) → made (f x) P) → made (andThen r f) P
 made-then P (Ok x) f h = h x
 made-then P (Err e) f h = tt
-
-made-cond : {A E : Type 0} (P : A → Type 0) (b : Bool) (r s : Result A E) → made r P → made s P → made (cond b r s) P
-made-cond P true r s p q = p
-made-cond P false r s p q = q
 
 kept-made : {A E : Type 0} (P : A → Type 0) (a : A) (r : Result A E) → P a → made r P → P (kept a r)
 kept-made P a (Ok x) p q = q
@@ -57,7 +53,7 @@ module _ {PS PC : Type 0} (K : Model PS PC) (from to : ℕ) where
         ]
 
   -- as many cells and heads as before
-  abbrev pub Sized : Memory PS PC → Memory PS PC → Type 0
+  abbrev Sized : Memory PS PC → Memory PS PC → Type 0
   Sized m x = (length (x .cells) ≡ length (m .cells)) × (length (x .heads) ≡ length (m .heads))
 
   written-sized : (m : Memory PS PC) (c : ℕ) (s : PS) → made (written K m c s) (Sized m)
@@ -68,18 +64,25 @@ module _ {PS PC : Type 0} (K : Model PS PC) (from to : ℕ) where
       let tried : Result (Memory PS PC) Refusal = cond (leb (length (m .cells)) c) (Err Cell) (andThen log put) in
       let logging : made (andThen log put) (Sized m) = made-then (Sized m) log put (λ rs. (simp length-set, simp length-set)) in
       made-then (Sized m) (sound (length (m .cells)) (length (m .heads)) (length (m .records)) (m .count)) (λ _. tried)
-      (λ _. made-cond (Sized m) (leb (length (m .cells)) c) (Err Cell) (andThen log put) tt logging)
+      (λ _. cond-both (leb (length (m .cells)) c) (Err Cell) (andThen log put) (λ r. made r (Sized m)) (λ _. tt) (λ _. logging))
 
   back-sized : (m : Memory PS PC) (c : ℕ) → Sized m (put-back K from to m c)
   back-sized m c =
       let put : PS → Result (Memory PS PC) Refusal = λ t. cond (alike K (held-state K m c) t) (Ok m) (written K m c t) in
       kept-made (Sized m) m (andThen (earlier-state K from to m c) put) (refl, refl)
       (made-then (Sized m) (earlier-state K from to m c) put
-      (λ t. made-cond (Sized m) (alike K (held-state K m c) t) (Ok m) (written K m c t) (refl, refl) (written-sized m c t)))
+      (λ t. cond-both (alike K (held-state K m c) t) (Ok m) (written K m c t) (λ r. made r (Sized m)) (λ _. (refl, refl)) (λ _. written-sized m c t)))
 
-  pub all-back-sized : (m : Memory PS PC) (n : ℕ) → Sized m (put-all-back K from to m n)
+  all-back-sized : (m : Memory PS PC) (n : ℕ) → Sized m (put-all-back K from to m n)
   all-back-sized m zero = (refl, refl)
   all-back-sized m (suc n) =
       let one = back-sized (put-all-back K from to m n) n in
       let rest = all-back-sized m n in
       (one .0 ∙ rest .0, one .1 ∙ rest .1)
+
+  -- x is what is there after n cells
+  pub still-sized : (m x : Memory PS PC) (n : ℕ) → x ≡ put-all-back K from to m n → Sized m x
+  still-sized m x n e = let sized = all-back-sized m n in (ap (λ y. length (y .cells)) e ∙ sized .0, ap (λ y. length (y .heads)) e ∙ sized .1)
+
+  pub one-more-back : (m x y : Memory PS PC) (n : ℕ) → x ≡ put-all-back K from to m n → y ≡ put-back K from to x n → y ≡ put-all-back K from to m (n + 1)
+  one-more-back m x y n e q = q ∙ ap (λ z. put-back K from to z n) e ∙ ap (put-all-back K from to m) (sym (add-one n))

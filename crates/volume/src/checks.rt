@@ -1,16 +1,17 @@
 // Check: whether the memory is what writes after a format leave.
 ghost use mathlib.Core.Path.{_≡_};
 ghost use mathlib.Core.Bool.{cond};
-ghost use lib.ListN.{length, getD, set};
+ghost use lib.ListN.{length, set};
 ghost use Prim.Native.Nat.{_<_, _≤_};
 ghost use Rattle.kind.specs.Answers.{andThen, each-below, kept};
 ghost use Rattle.journal.specs.Appends.{planned};
 ghost use Rattle.journal.specs.Links.{numbered};
 ghost use Rattle.journal.specs.Spans.{spanned};
 ghost use Rattle.std.specs.declared.result.Result.the-variants.{Ok};
-ghost use Rattle.volume.specs.Calls.{origin};
 ghost use Rattle.volume.specs.Checks.{as-planned, right-record, record-right, head-right, newest-to, before-wrong, as-changed, cell-right, judged, noted, examined, workable, checked, work-after};
 ghost use Rattle.volume.specs.Memory.{held};
+ghost use Rattle.volume.specs.Reverts.{held-state};
+ghost use Rattle.volume.specs.Rolls.{across};
 ghost use Rattle.volume.specs.declared.refusal.Refusal.the-variants.{Unsound};
 use crate::Volume;
 use crate::parts::fill_with;
@@ -128,7 +129,7 @@ impl<'a, K: Kind> Volume<'a, K> {
         requires there { ⌜ i < length (now (now self .cells)) ⌝ }
         requires few { ⌜ length (now (now self .cells)) ≤ 4096 ⌝ }
         requires paired { ⌜ length (now (now self .heads)) ≡ length (now (now self .cells)) ⌝ }
-        ensures { λ b. ⌜ b ≡ as-changed (K·Kind .model) (getD (now (now (self .entry) .cells)) i (origin (K·Kind .model))) (spanned (K·Kind .model) (now (now (self .entry) .records)) (now (now (self .entry) .count)) (getD (now (now (self .entry) .heads)) i 0) i 0 (now (now (self .entry) .count))) ⌝ }
+        ensures { λ b. ⌜ b ≡ as-changed (K·Kind .model) (held-state (K·Kind .model) (held (now (self .entry))) i) (across (K·Kind .model) (held (now (self .entry))) 0 (held (now (self .entry)) .count) i) ⌝ }
     {
         let state = state_at::<K>(self.cells, i);
         let head = self.heads[i];

@@ -57,10 +57,10 @@ impl<'a, K: Kind> Volume<'a, K> {
         ensures low { λ r. ⌜ made r (λ n. n ≤ 1) ⌝ }
     {
         let target = self.earlier(from, to, i)?;
-        if self.stands(i, &target) {
+        let state = state_at::<K>(self.cells, i);
+        if K::same_state(&state, &target) {
             return Ok(0);
         }
-        let state = state_at::<K>(self.cells, i);
         let change = K::difference(&state, &target);
         let head = self.heads[i];
         let _ = next_record::<K>(self.records, from + 1, head, i as u16, &change)?;
@@ -82,7 +82,7 @@ impl<'a, K: Kind> Volume<'a, K> {
         Ok(writes)
     }
 
-    // Writes a cell back where it stands otherwise.
+    // Writes a cell back where it stands otherwise. A refusal would leave it as it is; where every cell was tried before, none comes.
     fn restore(&mut self, from: u32, to: u32, i: usize)
         requires there { ⌜ i < length (now (now self .cells)) ⌝ }
         requires few { ⌜ length (now (now self .cells)) ≤ 4096 ⌝ }

@@ -1,4 +1,4 @@
-use mathlib.Core.Path.{_≡_, refl, sym}
+use mathlib.Core.Path.{refl, sym}
 use mathlib.Core.Bool.{Bool}
 use Prim.Native.Nat.{ℕ}
 use lib.Dec.{eqb}
@@ -15,7 +15,7 @@ returns-then-heads-i g c =
     let ns = c .args .newest .now in
     let i = c .loop-i .i in
     let same : ℕ → Bool = λ k. eqb (getD hs k 0) (getD ns k 0) in
-    sym (failed (head-right (g .K·Kind .model) ns hs) same Head (λ _. refl) (length hs) i (c .loop-i-test .taken) (c .loop-i .inv) (ne-eqb (getD hs i 0) (getD ns i 0) (c .if-heads-i .taken)))
+    sym (failed (head-right (g .K·Kind .model) ns hs) same Head (λ _. refl) (length hs) i (same i) (c .loop-i-test .taken) (c .loop-i .inv) refl (ne-eqb (getD hs i 0) (getD ns i 0) (c .if-heads-i .taken)))
 
 pub loop-i-again : need.loop-i-again
 loop-i-again g c =
@@ -23,4 +23,4 @@ loop-i-again g c =
     let ns = c .args .newest .now in
     let i = c .loop-i .i in
     let same : ℕ → Bool = λ k. eqb (getD hs k 0) (getD ns k 0) in
-    passed (head-right (g .K·Kind .model) ns hs) same Head (λ _. refl) i (c .loop-i .inv) (eq-eqb (getD hs i 0) (getD ns i 0) (c .if-heads-i .left))
+    passed (head-right (g .K·Kind .model) ns hs) same Head (λ _. refl) i (same i) (c .loop-i .inv) refl (eq-eqb (getD hs i 0) (getD ns i 0) (c .if-heads-i .left))
