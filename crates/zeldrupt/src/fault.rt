@@ -67,6 +67,8 @@ pub impl From<io::Error> for Fault as FaultFromIo {
 
 fn meaning(r: Refusal) -> &'static str {
     match r {
+        Refusal::File(f) => file_meaning(f),
+        Refusal::Area => "area too short",
         Refusal::Cells => "no cell, or more than 4096",
         Refusal::Heads => "heads or work row not as many as cells",
         Refusal::Capacity => "log above 65535 records",
@@ -96,6 +98,16 @@ fn file_meaning(f: FileFault) -> &'static str {
     }
 }
 
+// The record that a file's fault is at.
+fn write_file_place<W: fmt::Write>(x: FileFault, f: &mut fmt::Formatter<W>) -> fmt::Result {
+    match x {
+        FileFault::Cell(n) => write!(f, ": record {n}"),
+        FileFault::Next(n) => write!(f, ": record {n}"),
+        FileFault::Change(n, _) => write!(f, ": record {n}"),
+        _ => Ok(()),
+    }
+}
+
 fn write_refusal<W: fmt::Write>(r: Refusal, f: &mut fmt::Formatter<W>) -> fmt::Result {
     let number = r.number();
     write!(f, "refused {number}")?;
@@ -109,6 +121,7 @@ fn write_refusal<W: fmt::Write>(r: Refusal, f: &mut fmt::Formatter<W>) -> fmt::R
         Refusal::Ladder(LadderFault::Cell { record }) => {
             write!(f, ": cell number at record {record}")?;
         }
+        Refusal::File(x) => write_file_place(x, f)?,
         Refusal::Unsound(Wrong::Record(n)) => write!(f, ": record {n}")?,
         Refusal::Unsound(Wrong::Head(c)) => write!(f, ": head of cell {c}")?,
         Refusal::Unsound(Wrong::Cell(c)) => write!(f, ": cell {c}")?,
@@ -121,12 +134,7 @@ fn write_refusal<W: fmt::Write>(r: Refusal, f: &mut fmt::Formatter<W>) -> fmt::R
 fn write_file_fault<W: fmt::Write>(x: FileFault, f: &mut fmt::Formatter<W>) -> fmt::Result {
     let number = x.number();
     write!(f, "refused {number}")?;
-    match x {
-        FileFault::Cell(n) => write!(f, ": record {n}")?,
-        FileFault::Next(n) => write!(f, ": record {n}")?,
-        FileFault::Change(n, _) => write!(f, ": record {n}")?,
-        _ => {}
-    }
+    write_file_place(x, f)?;
     let why = file_meaning(x);
     write!(f, " ({why})")
 }
