@@ -4,6 +4,8 @@ pub mod Canonical
 pub mod Checked
 pub mod Entered
 pub mod Figures
+pub mod Filed
+pub mod Loaded
 pub mod Nth
 pub mod Promised
 pub mod Rebuilt

@@ -48,7 +48,7 @@ as-ok : {A E F : Type 0} (g : E → F) (r : Result A E) (y : A) → refused-as g
 as-ok g (Ok x) y e = let s : x ≡ y = cc in ap Ok s
 as-ok g (Err q) y e = let z : _≡_ {A = ℕ} 0 1 = cc in absurd (omega arith)
 
-test-ok : {A E : Type 0} (t : Bool) (e : E) (r : Result A E) (y : A) → refuse-if t e r ≡ Ok y → (t ≡ false) × (r ≡ Ok y)
+pub test-ok : {A E : Type 0} (t : Bool) (e : E) (r : Result A E) (y : A) → refuse-if t e r ≡ Ok y → (t ≡ false) × (r ≡ Ok y)
 test-ok true e r y q = let z : _≡_ {A = ℕ} 0 1 = cc in absurd (omega arith)
 test-ok false e r y q = (refl, q)
 

@@ -1,3 +1,4 @@
+pub mod Files
 pub mod History
 pub mod Calls
 pub mod Promises
