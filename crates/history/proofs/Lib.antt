@@ -9,6 +9,7 @@ pub mod Loaded
 pub mod Nth
 pub mod Promised
 pub mod Rebuilt
+pub mod Recalled
 pub mod Replayed
 pub mod Reverted
 pub mod Rolled
