@@ -2,6 +2,7 @@ pub mod Accepts
 pub mod Alikes
 pub mod Canonical
 pub mod Checked
+pub mod Decoded
 pub mod Entered
 pub mod Figures
 pub mod Filed

@@ -62,11 +62,11 @@ passed K handed f hd e =
 
 module _ {PS PC : Type 0} (K : Model PS PC) (L : Laws K) where
   -- the history of these sizes with these entries
-  abbrev with-entries : History (K .State) → List (Entry (K .State)) → History (K .State)
+  abbrev pub with-entries : History (K .State) → List (Entry (K .State)) → History (K .State)
   with-entries h es = record { cells = h .cells; capacity = h .capacity; entries = es }
 
   -- what is read from a file tells what is taken into the memory
-  abbrev Tells : History (K .State) → Result (List (Entry (K .State))) FileFault → Result (Memory PS PC) Refusal → Type 0
+  abbrev pub Tells : History (K .State) → Result (List (Entry (K .State))) FileFault → Result (Memory PS PC) Refusal → Type 0
   Tells h (Ok es) (Ok w) = Canonical K (with-entries h es) w
   Tells h (Ok es) (Err r) = ⊥
   Tells h (Err e) (Ok w) = ⊥
@@ -167,8 +167,9 @@ module _ {PS PC : Type 0} (K : Model PS PC) (L : Laws K) where
       omega arith
 
   -- all of them
-  module _ {h : History (K .State)} {v : Memory PS PC} (C : Canonical K h v) (f : List ℕ) where
-    abbrev start : Memory PS PC
+  module _ (h : History (K .State)) (v : Memory PS PC) (z : Sizes (length (v .cells)) (length (v .heads)) (length (v .records))) (all-cells : length (v .cells) ≡ h .cells)
+      (all-records : length (v .records) ≡ h .capacity) (E : Canonical K (with-entries h []) (emptied K v)) (f : List ℕ) where
+    abbrev pub start : Memory PS PC
     start = emptied K v
 
     next-tells : (n : ℕ) → n < h .capacity → (r : Result (List (Entry (K .State))) FileFault) (t : Result (Memory PS PC) Refusal) →
@@ -179,8 +180,8 @@ module _ {PS PC : Type 0} (K : Model PS PC) (L : Laws K) where
     next-tells n l (Err x) (Ok w) size D = absurd D
     next-tells n l (Err x) (Err y) size D = D
 
-    all-tell : (n : ℕ) → n ≤ h .capacity → Tells h (entries-read K (h .cells) f n) (took-to K f start n)
-    all-tell zero l = empty-canonical K L C
+    pub all-tell : (n : ℕ) → n ≤ h .capacity → Tells h (entries-read K (h .cells) f n) (took-to K f start n)
+    all-tell zero l = E
     all-tell (suc n) l = next-tells n l (entries-read K (h .cells) f n) (took-to K f start n) (λ es e. entries-length (h .cells) f n es e) (all-tell n (omega arith))
 
     -- as far as they were taken
@@ -192,20 +193,20 @@ module _ {PS PC : Type 0} (K : Model PS PC) (L : Laws K) where
     some-entries (Err x) (Err y) m D old = old
 
     reached-canonical : (n : ℕ) → n ≤ h .capacity → (es : List (Entry (K .State))) × Canonical K (with-entries h es) (reached K f start n)
-    reached-canonical zero l = ([], empty-canonical K L C)
+    reached-canonical zero l = ([], E)
     reached-canonical (suc n) l = some-entries (entries-read K (h .cells) f (suc n)) (took-to K f start (suc n)) (reached K f start n) (all-tell (suc n) l) (reached-canonical n (omega arith))
 
     -- the header
     abbrev handed : Handed
     handed = record { cells = length (v .cells); room = length (v .records) }
 
-    heads-tell : headed K v f ≡ refused-as File (header-read K h f)
+    pub heads-tell : headed K v f ≡ refused-as File (header-read K h f)
     heads-tell =
-        ap (λ r. andThen r (λ _. refused-as File (header-of K (Some handed) f))) (sized-ok (C .sizes))
-        ∙ ap (λ n. refused-as File (header-of K (Some (record { cells = n; room = length (v .records) })) f)) (C .all-cells)
-        ∙ ap (λ n. refused-as File (header-of K (Some (record { cells = h .cells; room = n })) f)) (C .all-records)
+        ap (λ r. andThen r (λ _. refused-as File (header-of K (Some handed) f))) (sized-ok z)
+        ∙ ap (λ n. refused-as File (header-of K (Some (record { cells = n; room = length (v .records) })) f)) all-cells
+        ∙ ap (λ n. refused-as File (header-of K (Some (record { cells = h .cells; room = n })) f)) all-records
 
-    count-fits : (hd : Header) → header-read K h f ≡ Ok hd → hd .count ≤ h .capacity
+    pub count-fits : (hd : Header) → header-read K h f ≡ Ok hd → hd .count ≤ h .capacity
     count-fits hd e =
         let P = passed K (Some (record { cells = h .cells; room = h .capacity })) f hd e in
         let parts = or-parts (ltb 65535 (count-at f)) (ltb (h .capacity) (count-at f)) (P .count) in
@@ -226,23 +227,29 @@ module _ {PS PC : Type 0} (K : Model PS PC) (L : Laws K) where
     by-header (Ok hd) e = told-so (entries-read K (h .cells) f (hd .count)) (took-to K f start (hd .count)) (all-tell (hd .count) (count-fits hd e))
     by-header (Err x) e = refl
 
-    pub load-told : replied K v (load f) ≡ predicted K h (load f)
-    unfolding loaded
-    load-told = ap (λ r. reply counted (count-of (andThen r (λ hd. took-to K f start (hd .count))))) heads-tell ∙ by-header (header-read K h f) refl
-
     settles : (n : ℕ) → n ≤ h .capacity → (r : Result (List (Entry (K .State))) FileFault) (t : Result (Memory PS PC) Refusal) → Tells h r t → Canonical K (refilled K h r) (settled K (reached K f start n) t)
     settles n l (Ok es) (Ok w) D = D
     settles n l (Ok es) (Err y) D = absurd D
     settles n l (Err x) (Ok w) D = absurd D
     settles n l (Err x) (Err y) D = empty-canonical K L (reached-canonical n l .1)
 
-    left-so : (r : Result Header FileFault) → header-read K h f ≡ r →
+    left-so : (r : Result Header FileFault) → header-read K h f ≡ r → Canonical K h v →
         Canonical K (fed-file K h f r) (kept v (andThen (refused-as File r) (λ hd. Ok (settled K (reached K f start (hd .count)) (took-to K f start (hd .count))))))
-    left-so (Ok hd) e = settles (hd .count) (count-fits hd e) (entries-read K (h .cells) f (hd .count)) (took-to K f start (hd .count)) (all-tell (hd .count) (count-fits hd e))
-    left-so (Err x) e = C
+    left-so (Ok hd) e C = settles (hd .count) (count-fits hd e) (entries-read K (h .cells) f (hd .count)) (took-to K f start (hd .count)) (all-tell (hd .count) (count-fits hd e))
+    left-so (Err x) e C = C
 
-    pub load-keeps : Canonical K (fed K h (load f)) (run K v (load f))
+    load-is-told : replied K v (load f) ≡ predicted K h (load f)
+    unfolding loaded
+    load-is-told = ap (λ r. reply counted (count-of (andThen r (λ hd. took-to K f start (hd .count))))) heads-tell ∙ by-header (header-read K h f) refl
+
+    load-keeps-it : Canonical K h v → Canonical K (fed K h (load f)) (run K v (load f))
     unfolding load-leaves
-    load-keeps =
+    load-keeps-it C =
         subst (λ r. Canonical K (fed K h (load f)) (kept v (andThen r (λ hd. Ok (settled K (reached K f start (hd .count)) (took-to K f start (hd .count))))))) (sym heads-tell)
-        (left-so (header-read K h f) refl)
+        (left-so (header-read K h f) refl C)
+
+  pub load-told : {h : History (K .State)} {v : Memory PS PC} → Canonical K h v → (f : List ℕ) → replied K v (load f) ≡ predicted K h (load f)
+  load-told {h} {v} C f = load-is-told h v (C .sizes) (C .all-cells) (C .all-records) (empty-canonical K L C) f
+
+  pub load-keeps : {h : History (K .State)} {v : Memory PS PC} → Canonical K h v → (f : List ℕ) → Canonical K (fed K h (load f)) (run K v (load f))
+  load-keeps {h} {v} C f = load-keeps-it h v (C .sizes) (C .all-cells) (C .all-records) (empty-canonical K L C) f C
