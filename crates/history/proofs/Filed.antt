@@ -89,6 +89,14 @@ module _ {PS PC : Type 0} (K : Model PS PC) where
       save-short : area < file-length (K .width) (count h) → saved K v area ≡ Err Area
       save-short l = checked ∙ cond-true (ltb area (file-length (K .width) (count h))) (Err Area) (Ok (file-of-history K h)) (lt-ltb area (file-length (K .width) (count h)) l)
 
+      -- whatever is saved is that file
+      pub save-only : (f : List ℕ) → saved K v area ≡ Ok f → file-of-history K h ≡ f
+      save-only f e =
+          elim (cases-lt area (file-length (K .width) (count h))) [
+            | inl l ↦ (let never : _≡_ {A = Result (List ℕ) Refusal} (Err Area) (Ok f) = sym (save-short l) ∙ e in let z : _≡_ {A = ℕ} 0 1 = cc in absurd (omega arith))
+            | inr l ↦ (let same : _≡_ {A = Result (List ℕ) Refusal} (Ok (file-of-history K h)) (Ok f) = sym (save-made l) ∙ e in cc)
+          ]
+
       pub save-told : replied K v (save area) ≡ predicted K h (save area)
       save-told =
           let R : Type 0 = Reply (K .State) (K .Change) in

@@ -6,6 +6,7 @@ pub mod Decoded
 pub mod Entered
 pub mod Figures
 pub mod Filed
+pub mod Filings
 pub mod Loaded
 pub mod Nth
 pub mod Promised
