@@ -120,3 +120,8 @@ module _ {PS PC : Type 0} (K : Model PS PC) where
         heads = λ c l. getD-replicate (length (m .heads)) c 0 0 (omega (arith, z .even));
         logs = refl;
       }
+
+  pub empty-canonical : Laws K → {h : History (K .State)} {v : Memory PS PC} → Canonical h v → Canonical (record { cells = h .cells; capacity = h .capacity; entries = [] }) (emptied K v)
+  empty-canonical L {h} {v} C =
+      subst (λ n. Canonical (fresh n (h .capacity)) (emptied K v)) (C .all-cells)
+      (subst (λ n. Canonical (fresh (length (v .cells)) n) (emptied K v)) (C .all-records) (blank-canonical L v (C .sizes)))

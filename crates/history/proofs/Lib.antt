@@ -2,11 +2,16 @@ pub mod Accepts
 pub mod Alikes
 pub mod Canonical
 pub mod Checked
+pub mod Decoded
 pub mod Entered
 pub mod Figures
+pub mod Filed
+pub mod Filings
+pub mod Loaded
 pub mod Nth
 pub mod Promised
 pub mod Rebuilt
+pub mod Recalled
 pub mod Replayed
 pub mod Reverted
 pub mod Rolled

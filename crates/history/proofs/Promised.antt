@@ -16,13 +16,17 @@ use Rattle.kind.specs.Answers.{told, kept, refuse-if}
 use Rattle.kind.specs.Model.{Model, Laws}
 use Rattle.volume.specs.Calls.{origin, emptied}
 use Rattle.volume.specs.Memory.{Memory}
+use Rattle.volume.specs.Recalls.{recalled}
 use Rattle.volume.specs.declared.refusal.Refusal.the-variants.{Cell, Moment, Full}
-use Rattle.history.specs.Calls.{Call, format, write, read, span, roll, replay, revert, check, Reply, counted, state, change, refused, reply, run, run-all, fed, fed-all, replied, predicted}
+use Rattle.history.specs.Calls.{Call, format, write, read, span, roll, replay, revert, check, save, load, Reply, counted, state, change, refused, reply, run, run-all, fed, fed-all, replied, predicted}
 use Rattle.history.specs.History.{History, count, appended, last-entry, latest, stood, image}
 use Rattle.history.specs.Promises.{fresh, Stands, Kept-promises, Promises}
-use Rattle.history.proofs.Canonical.{Canonical, blank-canonical}
+use Rattle.history.proofs.Canonical.{Canonical, blank-canonical, empty-canonical}
 use Rattle.history.proofs.Checked.{check-told}
 use Rattle.history.proofs.Entered.{writes-head}
+use Rattle.history.proofs.Filed.{save-told, save-only}
+use Rattle.history.proofs.Loaded.{load-told, load-keeps}
+use Rattle.history.proofs.Recalled.{fit, recall-back}
 use Rattle.history.proofs.Replayed.{replay-told, replays-there}
 use Rattle.history.proofs.Reverted.{revert-told, revert-keeps}
 use Rattle.history.proofs.Rolled.{roll-told, rolls-there}
@@ -132,12 +136,13 @@ module _ {PS PC : Type 0} (K : Model PS PC) (L : Laws K) where
     answers (replay im m) = replay-told K L C im m
     answers (revert m) = revert-told K L C m
     answers (check work) = check-told K L C work
+    answers (save n) = save-told K L C n
+    answers (load f) = load-told K L C f
 
     keeps : (k : Call PS) → Canonical K (fed K h k) (run K v k)
     keeps format =
         subst (λ r. Canonical K (fed K h format) (kept v r)) (sym (formats K v (C .sizes)))
-        (subst (λ n. Canonical K (fresh n (h .capacity)) (emptied K v)) (C .all-cells)
-        (subst (λ n. Canonical K (fresh (length (v .cells)) n) (emptied K v)) (C .all-records) (blank-canonical K L v (C .sizes))))
+        (empty-canonical K L C)
     keeps (write c s) = write-keeps c s
     keeps (read c) = C
     keeps (span c a b) = C
@@ -145,6 +150,8 @@ module _ {PS PC : Type 0} (K : Model PS PC) (L : Laws K) where
     keeps (replay im m) = C
     keeps (revert m) = revert-keeps K L C m
     keeps (check work) = C
+    keeps (save n) = C
+    keeps (load f) = load-keeps K L C f
 
     pub kept-promises : Kept-promises K h v
     kept-promises =
@@ -153,6 +160,8 @@ module _ {PS PC : Type 0} (K : Model PS PC) (L : Laws K) where
           spans = λ c x y in′ p q. spans-stand K L C c x y in′ p q;
           compose = λ c x y z in′ p q r. spans-compose K L C c x y z in′ p q r;
           rolls = λ im x y same p q. rolls-there K L C im x y same p q;
+          recalls = λ f room c x area e in′ p wide.
+              ap (λ bs. recalled K bs c x area) (sym (save-only K L C room f e)) ∙ recall-back K L h (fit K L C) c x area in′ p wide;
           replays = λ im x even p. replays-there K L C im x even p;
         }
 

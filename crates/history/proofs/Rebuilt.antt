@@ -44,11 +44,11 @@ pub then-ok : {A B E : Type 0} (r : Result A E) (k : A → Result B E) (y : B) �
 then-ok (Ok x) k y e = (x, refl, e)
 then-ok (Err q) k y e = let z : _≡_ {A = ℕ} 0 1 = cc in absurd (omega arith)
 
-as-ok : {A E F : Type 0} (g : E → F) (r : Result A E) (y : A) → refused-as g r ≡ Ok y → r ≡ Ok y
+pub as-ok : {A E F : Type 0} (g : E → F) (r : Result A E) (y : A) → refused-as g r ≡ Ok y → r ≡ Ok y
 as-ok g (Ok x) y e = let s : x ≡ y = cc in ap Ok s
 as-ok g (Err q) y e = let z : _≡_ {A = ℕ} 0 1 = cc in absurd (omega arith)
 
-test-ok : {A E : Type 0} (t : Bool) (e : E) (r : Result A E) (y : A) → refuse-if t e r ≡ Ok y → (t ≡ false) × (r ≡ Ok y)
+pub test-ok : {A E : Type 0} (t : Bool) (e : E) (r : Result A E) (y : A) → refuse-if t e r ≡ Ok y → (t ≡ false) × (r ≡ Ok y)
 test-ok true e r y q = let z : _≡_ {A = ℕ} 0 1 = cc in absurd (omega arith)
 test-ok false e r y q = (refl, q)
 

@@ -69,7 +69,7 @@ module _ {PS PC : Type 0} (K : Model PS PC) (L : Laws K) {h : History (K .State)
             ∙ sym (now ∙ cond-false (eqb d c) (N .entry .state) (stood K h c n) (ne-eqb d c other))
       ]
 
-  known : (n : ℕ) → n ≤ count h → each-below (cell-known K (h .cells) (v .records)) n ≡ Ok tt
+  pub known : (n : ℕ) → n ≤ count h → each-below (cell-known K (h .cells) (v .records)) n ≡ Ok tt
   known n l =
       each-ok (cell-known K (h .cells) (v .records)) n
       (λ i low.

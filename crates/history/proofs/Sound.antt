@@ -8,10 +8,15 @@ use native.Mathlib.Omega.{arith}
 use lib.Dec.{ltb, leb}
 use lib.ListN.{length}
 use Rattle.std.proofs.shelf.Tests.{cond-both}
+use Rattle.std.specs.declared.result.Result.{Result}
+use Rattle.std.specs.declared.result.Result.the-variants.{Ok, Err}
 use Rattle.kind.specs.Model.{Model, Laws}
+use Rattle.file.specs.declared.faults.FileFault.{FileFault}
+use Rattle.file.specs.declared.header.Header.{Header}
 use Rattle.volume.specs.Memory.{Memory}
-use Rattle.history.specs.Calls.{Call, format, write, read, span, roll, replay, revert, check, restored, run-all, fed, fed-all}
-use Rattle.history.specs.History.{History, count, extended, appended}
+use Rattle.history.specs.Calls.{Call, format, write, read, span, roll, replay, revert, check, save, load, restored, refilled, fed-file, run-all, fed, fed-all}
+use Rattle.history.specs.Files.{entries-read, header-read}
+use Rattle.history.specs.History.{History, Entry, count, extended, appended}
 use Rattle.history.specs.Promises.{fresh}
 use Rattle.history.specs.Soundness.{asks, Left-by-writes, Checks-exactly}
 use Rattle.history.proofs.Accepts.{accepts}
@@ -32,6 +37,16 @@ module _ {PS PC : Type 0} (K : Model PS PC) (L : Laws K) where
   fed-capacity h (revert m) =
       cond-both (leb m (count h) && leb (count h + length (restored K h m)) (h .capacity)) (extended h (restored K h m)) h (λ g. g .capacity ≡ h .capacity) (λ _. refl) (λ _. refl)
   fed-capacity h (check work) = refl
+  fed-capacity h (save n) = refl
+  fed-capacity h (load f) = file-capacity (header-read K h f)
+    where
+      entries-capacity : (r : Result (List (Entry (K .State))) FileFault) → refilled K h r .capacity ≡ h .capacity
+      entries-capacity (Ok es) = refl
+      entries-capacity (Err e) = refl
+
+      file-capacity : (r : Result Header FileFault) → fed-file K h f r .capacity ≡ h .capacity
+      file-capacity (Ok hd) = entries-capacity (entries-read K (h .cells) f (hd .count))
+      file-capacity (Err e) = refl
 
   fed-all-capacity : (ks : List (Call PS)) (h : History (K .State)) → fed-all K h ks .capacity ≡ h .capacity
   fed-all-capacity [] h = refl

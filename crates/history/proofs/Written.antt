@@ -55,10 +55,10 @@ module _ {PS PC : Type 0} (K : Model PS PC) where
     abbrev stored : Record PC → Result (List (Record PC)) Refusal
     stored r = refuse-if (leb (length (v .records)) (v .count)) Full (Ok (set (v .records) (v .count) r))
 
-    abbrev moved : List (Record PC) → Result (Memory PS PC) Refusal
+    abbrev pub moved : List (Record PC) → Result (Memory PS PC) Refusal
     moved rs = Ok (memory (set (v .cells) c s) (set (v .heads) c (v .count + 1)) rs (v .count + 1))
 
-    abbrev tried : Result (Memory PS PC) Refusal
+    abbrev pub tried : Result (Memory PS PC) Refusal
     tried = andThen (logged K (v .records) (v .count) (v .count + 1) (getD (v .heads) c 0) c f) moved
 
     checked : written K v c s ≡ refuse-if (leb (length (v .cells)) c) Cell tried
@@ -104,6 +104,11 @@ module _ {PS PC : Type 0} (K : Model PS PC) where
       pub write-taken : count h < h .capacity → written K v c s ≡ Ok after
       write-taken some =
           reaches ∙ ap (λ x. andThen x moved) (cond-false (leb (length (v .records)) (v .count)) (Err Full) (Ok (set (v .records) (v .count) r)) (lt-leb (length (v .records)) (v .count) (omega (arith, C .all-records, C .counts))))
+
+      pub tried-taken : count h < h .capacity → tried ≡ Ok after
+      tried-taken some =
+          ap (λ x. andThen x moved) logs
+          ∙ ap (λ x. andThen x moved) (cond-false (leb (length (v .records)) (v .count)) (Err Full) (Ok (set (v .records) (v .count) r)) (lt-leb (length (v .records)) (v .count) (omega (arith, C .all-records, C .counts))))
 
       -- the entry that it adds, and its write
       abbrev e : Entry (K .State)

@@ -1,3 +1,5 @@
+pub mod Files
+pub mod Filing
 pub mod History
 pub mod Calls
 pub mod Promises

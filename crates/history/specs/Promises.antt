@@ -9,8 +9,10 @@ use Rattle.kind.specs.Model.{Model}
 use Rattle.journal.specs.declared.walk.Stretch.{Stretch}
 use Rattle.volume.specs.Calls.{formatted, change-between}
 use Rattle.volume.specs.Memory.{Memory}
+use Rattle.volume.specs.Recalls.{recalled}
 use Rattle.volume.specs.Replays.{replayed}
 use Rattle.volume.specs.Rolls.{rolled}
+use Rattle.volume.specs.Saves.{saved}
 use Rattle.history.specs.History.{History, count, last-entry, entries-of, stood, image}
 use Rattle.history.specs.Calls.{Call, run-all, fed-all, replied, predicted}
 
@@ -66,6 +68,8 @@ module _ {PS PC : Type 0} (K : Model PS PC) where
     pub spans : (c x y : ℕ) → c < h .cells → x ≤ count h → y ≤ count h → Spans h v c x y
     pub compose : (c x y z : ℕ) → c < h .cells → x ≤ count h → y ≤ count h → z ≤ count h → Composes v c x y z
     pub rolls : (im : List PS) (x y : ℕ) → map (K .state) im ≡ image K h x → x ≤ count h → y ≤ count h → Rolls h v im x y
+    -- recalling from what a save wrote gives the byte form of how the cell stood
+    pub recalls : (f : List ℕ) (room c x area : ℕ) → saved K v room ≡ Ok f → c < h .cells → x ≤ count h → K .width ≤ area → recalled K f c x area ≡ Ok (K .state-form (stood K h c x))
     pub replays : (im : List PS) (x : ℕ) → length im ≡ h .cells → x ≤ count h → Replays h v im x
 
   abbrev pub Promises : Type 0

@@ -13,7 +13,7 @@ use Rattle.kind.specs.Model.{Model, Laws}
 use Rattle.logs.specs.Writes.{Write, headAfter, headOf, changeTo, changesTo, composed, between, writesTo}
 use Rattle.logs.proofs.Algebra.{onward, onward-is, composed-append}
 
-take-split : {X : Type 0} (a b : ℕ) (xs : List X) → a ≤ b → take b xs ≡ take a xs ++ take (b - a) (drop a xs)
+pub take-split : {X : Type 0} (a b : ℕ) (xs : List X) → a ≤ b → take b xs ≡ take a xs ++ take (b - a) (drop a xs)
 take-split a b xs h =
     let e : a + (b - a) ≡ b = omega arith in
     sym (take-append-drop a (take b xs))
