@@ -2,6 +2,7 @@
 mod calls;
 mod checks;
 mod parts;
+pub mod recalls;
 pub mod refusal;
 mod replays;
 mod reverts;
