@@ -7,6 +7,7 @@ pub mod refusal;
 mod replays;
 mod reverts;
 mod rolls;
+mod saves;
 mod sizes;
 
 ghost use mathlib.Core.Path.{_≡_};
