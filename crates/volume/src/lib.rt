@@ -2,10 +2,12 @@
 mod calls;
 mod checks;
 mod parts;
+pub mod recalls;
 pub mod refusal;
 mod replays;
 mod reverts;
 mod rolls;
+mod saves;
 mod sizes;
 
 ghost use mathlib.Core.Path.{_≡_};

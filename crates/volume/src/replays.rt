@@ -34,7 +34,7 @@ fn try_record<K: Kind>(
 }
 
 // Tries records 1 to `moment`; the lowest that is of no cell is the fault.
-fn try_records<K: Kind>(
+pub(crate) fn try_records<K: Kind>(
     records: &[Record<K::Change>],
     cells: usize,
     moment: u32,

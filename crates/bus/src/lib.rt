@@ -1,0 +1,2 @@
+// The volume for other languages.
+pub mod calls;

@@ -1,0 +1,6 @@
+use Rattle.volume.specs.Recalls.{recalled}
+use Rattle.volume.proofs.recalls.recall.Needs as need
+
+pub returns : need.returns
+unfolding recalled
+returns g c = c .tell .ensures
