@@ -23,11 +23,11 @@ use Rattle.volume.specs.Reverts.{held-state, earlier-state, alike, needed, all
 use Rattle.volume.specs.Sizes.{sound}
 
 -- of an act that may refuse: what holds of all that it can give
-made-then : {A B E : Type 0} (P : B → Type 0) (r : Result A E) (f : A → Result B E) → ((x : A) → made (f x) P) → made (andThen r f) P
+pub made-then : {A B E : Type 0} (P : B → Type 0) (r : Result A E) (f : A → Result B E) → ((x : A) → made (f x) P) → made (andThen r f) P
 made-then P (Ok x) f h = h x
 made-then P (Err e) f h = tt
 
-made-cond : {A E : Type 0} (P : A → Type 0) (b : Bool) (r s : Result A E) → made r P → made s P → made (cond b r s) P
+pub made-cond : {A E : Type 0} (P : A → Type 0) (b : Bool) (r s : Result A E) → made r P → made s P → made (cond b r s) P
 made-cond P true r s p q = p
 made-cond P false r s p q = q
 
