@@ -63,17 +63,11 @@ module _ {PS PC : Type 0} (K : Model PS PC) where
         (made-cond (More m) other (Err (File (Next n))) (andThen read enter) tt
         (made-then (More m) read enter (λ g. more-entered m (p .cell) (K .plain-change g))))
 
-    -- record n, in a file that has it; r is what was found
-    module _ (n w : ℕ) (r : Result SavedRecord FileFault) (wide : w ≡ K .width) (whole : Whole (K .width) f) (low : 1 ≤ n) (high : n ≤ count-at f)
-        (is : mapped parts-seen (λ e. e) r ≡ record-at w f n) where
-      there : mapped parts-seen (λ e. e) r ≡ Ok (saved K f n)
-      there = is ∙ ap (λ x. record-at x f n) wide ∙ records-there (K .width) f n whole low high
-
-      pub found : (s : SavedRecord) → r ≡ Ok s → parts-seen s ≡ saved K f n
-      found s q = ap (kept (saved K f n)) (sym (ap (mapped parts-seen (λ e. e)) q) ∙ there)
-
-      pub not-refused : (e : FileFault) → r ≡ Err e → ⊥
-      not-refused e q = true≢false (ap isErr (sym (ap (mapped parts-seen (λ e. e)) q) ∙ there))
+    -- record n is found in a file that has it
+    pub not-refused : (n w : ℕ) (r : Result SavedRecord FileFault) → w ≡ K .width → Whole (K .width) f → 1 ≤ n → n ≤ count-at f → mapped parts-seen (λ e. e) r ≡ record-at w f n → (e : FileFault) → r ≡ Err e → ⊥
+    not-refused n w r wide whole low high is e q =
+        let there : mapped parts-seen (λ e. e) r ≡ Ok (saved K f n) = is ∙ ap (λ x. record-at x f n) wide ∙ records-there (K .width) f n whole low high in
+        true≢false (ap isErr (sym (ap (mapped parts-seen (λ e. e)) q) ∙ there))
 
     module _ (m : Memory PS PC) where
       reached-is : (n : ℕ) (w : Memory PS PC) → took-to K f m n ≡ Ok w → reached K f m n ≡ w

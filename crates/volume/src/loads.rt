@@ -155,8 +155,9 @@ impl<'a, K: Kind> Volume<'a, K> {
         self.refill(file, header.count)
     }
 
-    // Fills the volume from a file of its kind and answers the count. Refusals 1 to 3 and 5 to 10 change nothing; then record by
-    // record 15, 16, 17, 18, after which the volume is as a format leaves it, but for the records.
+    // Fills the volume from a file of its kind, rebuilds the links and answers the count. Refusals 1 to 3 and 5 to 10 change
+    // nothing. 15 to 17, tried record by record, leave a formatted volume with the records before the faulty one in its log; so
+    // would 18 and 19, should logging refuse.
     pub fn load(&mut self, file: &[u8]) -> Result<u32, Refusal>
         ensures answer { λ r. ⌜ r ≡ count-of (loaded (K·Kind .model) (held (now (self .entry))) (now (file .entry))) ⌝ }
         ensures after { λ _. ⌜ held (now (self .exit)) ≡ load-leaves (K·Kind .model) (held (now (self .entry))) (now (file .entry)) ⌝ }
