@@ -1,4 +1,4 @@
-use mathlib.Core.Path.{_≡_, sym, ap, _∙_}
+use mathlib.Core.Path.{sym, ap, _∙_}
 use lib.ListN.{length, length-replicate}
 use Rattle.volume.specs.Calls.{origin, emptied}
 use Rattle.volume.specs.Loads.{settled, reached}
