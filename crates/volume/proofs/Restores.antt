@@ -1,6 +1,6 @@
 -- Cells that are counted and written back one after the other. Assumes nothing.
 use mathlib.Core.Path.{_≡_, refl, sym, ap, _∙_}
-use mathlib.Core.Bool.{cond}
+use mathlib.Core.Bool.{Bool, true, false, cond}
 use mathlib.Core.List.{List}
 use mathlib.Core.Logic.{inl, inr}
 use Prim.Native.Nat.{ℕ, zero, suc, _+_, _<_}
@@ -23,9 +23,13 @@ use Rattle.volume.specs.Reverts.{held-state, earlier-state, alike, needed, all
 use Rattle.volume.specs.Sizes.{sound}
 
 -- of an act that may refuse: what holds of all that it can give
-made-then : {A B E : Type 0} (P : B → Type 0) (r : Result A E) (f : A → Result B E) → ((x : A) → made (f x) P) → made (andThen r f) P
+pub made-then : {A B E : Type 0} (P : B → Type 0) (r : Result A E) (f : A → Result B E) → ((x : A) → made (f x) P) → made (andThen r f) P
 made-then P (Ok x) f h = h x
 made-then P (Err e) f h = tt
+
+pub made-cond : {A E : Type 0} (P : A → Type 0) (b : Bool) (r s : Result A E) → made r P → made s P → made (cond b r s) P
+made-cond P true r s p q = p
+made-cond P false r s p q = q
 
 kept-made : {A E : Type 0} (P : A → Type 0) (a : A) (r : Result A E) → P a → made r P → P (kept a r)
 kept-made P a (Ok x) p q = q

@@ -3,7 +3,7 @@ ghost use mathlib.Core.Path.{_≡_};
 ghost use denote.Ref.{name};
 ghost use Prim.Native.Nat.{_+_};
 ghost use Rattle.kind.specs.Answers.{told, kept};
-ghost use Rattle.volume.specs.Calls.{cleared, formatted, wrote, written, looked, state-read, measured, change-between, steps-of, change-of};
+ghost use Rattle.volume.specs.Calls.{emptied, cleared, formatted, wrote, written, looked, state-read, measured, change-between, steps-of, change-of};
 ghost use Rattle.volume.specs.Memory.{held};
 use crate::Volume;
 use crate::parts::copy_state;
@@ -16,6 +16,19 @@ use crate::sizes::check_sizes;
 use kind::Kind;
 
 impl<'a, K: Kind> Volume<'a, K> {
+    // Sets every cell to the origin, every head and the count to zero.
+    pub(crate) fn empty(&mut self)
+        ensures after { λ _. ⌜ held (now (self .exit)) ≡ emptied (K·Kind .model) (held (now (self .entry))) ⌝ }
+        ensures cells_same { λ _. ⌜ name (now (self .exit) .cells) ≡ name (now (self .entry) .cells) ⌝ }
+        ensures heads_same { λ _. ⌜ name (now (self .exit) .heads) ≡ name (now (self .entry) .heads) ⌝ }
+        ensures records_same { λ _. ⌜ name (now (self .exit) .records) ≡ name (now (self .entry) .records) ⌝ }
+        ensures count_same { λ _. ⌜ name (now (self .exit) .count) ≡ name (now (self .entry) .count) ⌝ }
+    {
+        fill_with(self.cells, K::origin());
+        fill_with(self.heads, 0);
+        *self.count = 0;
+    }
+
     fn clear(&mut self) -> Result<(), Refusal>
         ensures answer { λ r. ⌜ r ≡ told tt (cleared (K·Kind .model) (held (now (self .entry)))) ⌝ }
         ensures after { λ _. ⌜ held (now (self .exit)) ≡ kept (held (now (self .entry))) (cleared (K·Kind .model) (held (now (self .entry)))) ⌝ }
@@ -25,9 +38,7 @@ impl<'a, K: Kind> Volume<'a, K> {
         ensures count_same { λ _. ⌜ name (now (self .exit) .count) ≡ name (now (self .entry) .count) ⌝ }
     {
         check_sizes(self.cells.len(), self.heads.len(), self.records.len())?;
-        fill_with(self.cells, K::origin());
-        fill_with(self.heads, 0);
-        *self.count = 0;
+        self.empty();
         Ok(())
     }
 

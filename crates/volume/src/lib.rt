@@ -1,6 +1,7 @@
 // A volume: cells with the log of their changes, in memory that the caller lends.
 mod calls;
 mod checks;
+mod loads;
 mod parts;
 pub mod recalls;
 pub mod refusal;

@@ -23,8 +23,6 @@ pub enum Fault {
     Place,
     // more than the tool makes
     Large,
-    // a call that the volume does not have yet
-    Absent,
     Memory,
     Files(io::Error),
 }
@@ -149,7 +147,6 @@ pub impl fmt::Display for Fault as FaultDisplay {
             Fault::Kind => f.write_str("error: no such kind"),
             Fault::Place => f.write_str("error: no such place"),
             Fault::Large => f.write_str("error: too large"),
-            Fault::Absent => f.write_str("error: not a call of this volume"),
             Fault::Memory => f.write_str("error: out of memory"),
             Fault::Files(e) => write!(f, "error: {e}"),
         }

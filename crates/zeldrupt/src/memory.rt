@@ -1,10 +1,12 @@
 // Memory of one kind, and the commands on it. It is lent to a volume for each call; nothing else touches a volume.
 use crate::fault::Fault;
 use crate::fault::FaultFromAlloc;
+use crate::fault::FaultFromIo;
 use crate::fault::FaultFromRefusal;
 use crate::fault::FaultFromRefused;
 use crate::fault::FaultFromScript;
 use crate::lists;
+use file::records::file_length;
 use journal::record::Record;
 use journal::record::place_of;
 use kind::Kind;
@@ -16,10 +18,14 @@ use script::error::ScriptError;
 use script::notation::Notation;
 use std::alloc::AllocError;
 use std::alloc::Global;
+use std::fs;
 use volume::Volume;
 
 // The most cells, heads, records or states of an image that the tool makes.
 const LIMIT: u32 = 100000;
+
+// The most bytes of a save's area.
+const MOST_BYTES: usize = 100000000;
 
 const POKED: &str = "poked";
 
@@ -186,6 +192,43 @@ impl<K: Notation> Memory<K> {
         Ok(String::from_str(self.heap, "replayed")?)
     }
 
+    // Writes the volume's file to a path, through an area of just its length or of the length that is asked for.
+    fn save(
+        &mut self,
+        rt: &LibcRuntime,
+        path: &str,
+        area: Option<u32>,
+    ) -> Result<String, Fault> {
+        let length = match area {
+            Some(n) => n as usize,
+            None => file_length::<K>(self.count.min(LIMIT)),
+        };
+        if length > MOST_BYTES {
+            return Err(Fault::Large);
+        }
+        let mut bytes = filled(self.heap, 0u8, length)?;
+        let n = Volume::<K>::over(
+            &mut self.cells,
+            &mut self.heads,
+            &mut self.records,
+            &mut self.count,
+        ).save(&mut bytes)?;
+        bytes.truncate(n);
+        fs::write(rt, path, bytes.as_slice())?;
+        Ok(format!(self.heap, "saved {n} bytes")?)
+    }
+
+    fn load(&mut self, rt: &LibcRuntime, path: &str) -> Result<String, Fault> {
+        let file = fs::read(rt, path)?;
+        let count = Volume::<K>::over(
+            &mut self.cells,
+            &mut self.heads,
+            &mut self.records,
+            &mut self.count,
+        ).load(file.as_slice())?;
+        Ok(format!(self.heap, "count {count}")?)
+    }
+
     fn image_live(&mut self) -> Result<String, Fault> {
         self.image = Vec::from_slice(self.heap, &self.cells)?;
         Ok(String::from_str(self.heap, "copied")?)
@@ -252,8 +295,10 @@ impl<K: Notation> Memory<K> {
         Ok(text)
     }
 
-    pub fn answer(&mut self, command: Spoken<'_>) -> Result<String, Fault> {
+    pub fn answer(&mut self, rt: &LibcRuntime, command: Spoken<'_>) -> Result<String, Fault> {
         match command {
+            Command::Save { path, area } => self.save(rt, path, area),
+            Command::Load { path } => self.load(rt, path),
             Command::Write { cell, state } => self.write(cell, state),
             Command::Read { cell } => self.read(cell),
             Command::Span { cell, from, to } => self.span(cell, from, to),
@@ -278,7 +323,7 @@ impl<K: Notation> Memory<K> {
                 field,
                 value,
             } => self.poke_record(record, field, value),
-            _ => Err(Fault::Absent),
+            _ => Err(Fault::Unformatted),
         }
     }
 }

@@ -3,12 +3,16 @@ use crate::fault::Fault;
 use crate::fault::FaultFromAlloc;
 use crate::fault::FaultFromFile;
 use crate::fault::FaultFromIo;
+use crate::fault::FaultFromRefusal;
 use crate::fault::FaultFromRefused;
 use crate::fault::FaultFromScript;
 use crate::memory::Memory;
 use file::faults::FileFault;
+use file::header::any_header;
 use file::items::Item;
 use file::items::Items;
+use file::letters::BoardKind;
+use file::letters::kind_of;
 use file::records::SavedRecord;
 use kind::bank_map::BankMap;
 use kind::block::Block;
@@ -22,6 +26,7 @@ use script::notation::BlockNotation;
 use script::notation::TallyNotation;
 use std::alloc::Global;
 use std::fs;
+use volume::recalls::recall;
 
 #[derive(Drop)]
 enum Store {
@@ -153,6 +158,34 @@ impl Session {
         Ok(text)
     }
 
+    // The form of a cell's state at a moment, from a file of the kind that its letter names.
+    fn recall(
+        &self,
+        rt: &LibcRuntime,
+        path: &str,
+        cell: u32,
+        moment: u32,
+        area: Option<u32>,
+    ) -> Result<String, Fault> {
+        let heap = self.heap;
+        let file = fs::read(rt, path)?;
+        let header = any_header(file.as_slice())?;
+        let Some(kind) = kind_of(header.letter) else {
+            return Err(Fault::File(FileFault::Letter));
+        };
+        let width = kind.width();
+        let length = area.unwrap_or(256).min(256) as usize;
+        let mut out = vec![in heap; 0u8; length]?;
+        match kind {
+            BoardKind::Block => recall::<Block>(file.as_slice(), cell, moment, &mut out)?,
+            BoardKind::Tally => recall::<Tally>(file.as_slice(), cell, moment, &mut out)?,
+            BoardKind::BankMap => recall::<BankMap>(file.as_slice(), cell, moment, &mut out)?,
+        }
+        out.truncate(width);
+        let form = hex::render(heap, out.as_slice())?;
+        Ok(format!(heap, "form {form}")?)
+    }
+
     pub fn answer(&mut self, rt: &LibcRuntime, command: Spoken<'_>) -> Result<String, Fault> {
         match command {
             Command::Format {
@@ -164,11 +197,17 @@ impl Session {
             Command::Bytes { path, hex } => self.bytes(rt, path, hex),
             Command::Dump { path } => self.dump(rt, path),
             Command::Items { path } => self.items(rt, path),
+            Command::Recall {
+                path,
+                cell,
+                moment,
+                area,
+            } => self.recall(rt, path, cell, moment, area),
             other => match &mut self.store {
                 Store::Empty => Err(Fault::Unformatted),
-                Store::Blocks(memory) => memory.answer(other),
-                Store::Tallies(memory) => memory.answer(other),
-                Store::Maps(memory) => memory.answer(other),
+                Store::Blocks(memory) => memory.answer(rt, other),
+                Store::Tallies(memory) => memory.answer(rt, other),
+                Store::Maps(memory) => memory.answer(rt, other),
             },
         }
     }
