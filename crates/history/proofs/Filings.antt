@@ -113,8 +113,7 @@ module _ {PS PC : Type 0} (K : Model PS PC) (L : Laws K) where
         let same : file-of-history K (with-entries K L h es) ≡ f = file-back K L f octets (length (m .cells)) (Some handed) hd es P cells r in
         let made : fed-all K h (asks (asked-of es)) ≡ with-entries K L h es = asked-makes h [] es (C .owned) (omega (arith, entries-length K L (h .cells) f (hd .count) es r)) in
         let D : Canonical K (with-entries K L h es) (run-all K (emptied K m) (asks (asked-of es))) =
-        subst (λ g. Canonical K g (run-all K (emptied K m) (asks (asked-of es)))) made (keeps-all K L (asks (asked-of es)) E) in
-        (
+        subst (λ g. Canonical K g (run-all K (emptied K m) (asks (asked-of es)))) made (keeps-all K L (asks (asked-of es)) E) in (
           record { start = emptied K m; formats = formats K m z; writes = asked-of es; area = length f; saves = saves-it f D same (length f) (omega arith) },
           saves-it f C same,
         )

@@ -34,9 +34,10 @@ use Rattle.volume.specs.declared.refusal.Refusal.the-variants.{File}
 use Rattle.history.specs.Calls.{Reply, counted, refused, reply, load, run, refilled, fed-file, fed, replied, predicted}
 use Rattle.history.specs.Files.{entry-read, entries-read, header-read}
 use Rattle.history.specs.History.{History, Entry, count, appended, latest, last-number}
-use Rattle.history.proofs.Canonical.{Sizes, sized-ok, Canonical, empty-canonical}
+use Rattle.history.specs.Promises.{fresh}
+use Rattle.history.proofs.Canonical.{Sizes, sized-ok, Canonical, blank-canonical, empty-canonical}
 use Rattle.history.proofs.Entered.{writes-head}
-use Rattle.history.proofs.Rebuilt.{then-ok, test-ok}
+use Rattle.history.proofs.Rebuilt.{then-ok, test-ok, as-ok, sized-only}
 use Rattle.history.proofs.Written.{moved, tried-taken, after, write-canonical}
 
 -- the tests that an accepted header passed
@@ -247,6 +248,21 @@ module _ {PS PC : Type 0} (K : Model PS PC) (L : Laws K) where
     load-keeps-it C =
         subst (λ r. Canonical K (fed K h (load f)) (kept v (andThen r (λ hd. Ok (settled K (reached K f start (hd .count)) (took-to K f start (hd .count))))))) (sym heads-tell)
         (left-so (header-read K h f) refl C)
+
+  -- a load into any memory whose sizes and whose file's header are accepted
+  pub load-starts : (m : Memory PS PC) (f : List ℕ) (hd : Header) → headed K m f ≡ Ok hd →
+      Canonical K (fed-file K (fresh (length (m .cells)) (length (m .records))) f (Ok hd)) (load-leaves K m f)
+  unfolding load-leaves
+  load-starts m f hd e =
+      let h : History (K .State) = fresh (length (m .cells)) (length (m .records)) in
+      let start : Memory PS PC = emptied K m in
+      let handed : Handed = record { cells = length (m .cells); room = length (m .records) } in
+      let (x, a, b) = then-ok (sized (length (m .cells)) (length (m .heads)) (length (m .records))) (λ _. refused-as File (header-of K (Some handed) f)) hd e in
+      let z = sized-only (length (m .cells)) (length (m .heads)) (length (m .records)) x a in
+      let E = blank-canonical K L m z in
+      let fits = count-fits h m z refl refl E f hd (as-ok File (header-of K (Some handed) f) hd b) in
+      subst (λ r. Canonical K (fed-file K h f (Ok hd)) (kept m (andThen r (λ hd. Ok (settled K (reached K f start (hd .count)) (took-to K f start (hd .count))))))) (sym e)
+      (settles h m z refl refl E f (hd .count) fits (entries-read K (h .cells) f (hd .count)) (took-to K f start (hd .count)) (all-tell h m z refl refl E f (hd .count) fits))
 
   pub load-told : {h : History (K .State)} {v : Memory PS PC} → Canonical K h v → (f : List ℕ) → replied K v (load f) ≡ predicted K h (load f)
   load-told {h} {v} C f = load-is-told h v (C .sizes) (C .all-cells) (C .all-records) (empty-canonical K L C) f

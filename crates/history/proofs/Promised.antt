@@ -20,12 +20,12 @@ use Rattle.volume.specs.Recalls.{recalled}
 use Rattle.volume.specs.declared.refusal.Refusal.the-variants.{Cell, Moment, Full}
 use Rattle.history.specs.Calls.{Call, format, write, read, span, roll, replay, revert, check, save, load, Reply, counted, state, change, refused, reply, run, run-all, fed, fed-all, replied, predicted}
 use Rattle.history.specs.History.{History, count, appended, last-entry, latest, stood, image}
-use Rattle.history.specs.Promises.{fresh, Stands, Kept-promises, Promises}
+use Rattle.history.specs.Promises.{fresh, Stands, Kept-promises, Promises, Promises-after-load}
 use Rattle.history.proofs.Canonical.{Canonical, blank-canonical, empty-canonical}
 use Rattle.history.proofs.Checked.{check-told}
 use Rattle.history.proofs.Entered.{writes-head}
 use Rattle.history.proofs.Filed.{save-told, save-only}
-use Rattle.history.proofs.Loaded.{load-told, load-keeps}
+use Rattle.history.proofs.Loaded.{load-told, load-keeps, load-starts}
 use Rattle.history.proofs.Recalled.{fit, recall-back}
 use Rattle.history.proofs.Replayed.{replay-told, replays-there}
 use Rattle.history.proofs.Reverted.{revert-told, revert-keeps}
@@ -173,3 +173,6 @@ module _ {PS PC : Type 0} (K : Model PS PC) (L : Laws K) where
   promises m v e ks =
       let only = formats-only K m v e in
       kept-promises (keeps-all ks (subst (λ w. Canonical K (fresh (length (m .cells)) (length (m .records))) w) (only .1) (blank-canonical K L m (only .0))))
+
+  pub promises-after-load : Promises-after-load K
+  promises-after-load m f hd e ks = kept-promises (keeps-all ks (load-starts K L m f hd e))

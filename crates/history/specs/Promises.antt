@@ -6,15 +6,17 @@ use lib.ListN.{length}
 use Rattle.std.specs.Iters.{counting}
 use Rattle.std.specs.declared.result.Result.the-variants.{Ok}
 use Rattle.kind.specs.Model.{Model}
+use Rattle.file.specs.declared.header.Header.{Header}
 use Rattle.journal.specs.declared.walk.Stretch.{Stretch}
 use Rattle.volume.specs.Calls.{formatted, change-between}
+use Rattle.volume.specs.Loads.{headed, load-leaves}
 use Rattle.volume.specs.Memory.{Memory}
 use Rattle.volume.specs.Recalls.{recalled}
 use Rattle.volume.specs.Replays.{replayed}
 use Rattle.volume.specs.Rolls.{rolled}
 use Rattle.volume.specs.Saves.{saved}
 use Rattle.history.specs.History.{History, count, last-entry, entries-of, stood, image}
-use Rattle.history.specs.Calls.{Call, run-all, fed-all, replied, predicted}
+use Rattle.history.specs.Calls.{Call, run-all, fed-file, fed-all, replied, predicted}
 
 -- the history of a volume of these sizes that is just formatted
 abbrev pub fresh : {S : Type 0} → ℕ → ℕ → History S
@@ -76,3 +78,9 @@ module _ {PS PC : Type 0} (K : Model PS PC) where
   Promises =
       (m v : Memory PS PC) → formatted K m ≡ Ok v → (calls : List (Call PS)) →
       Kept-promises (fed-all K (fresh (length (m .cells)) (length (m .records))) calls) (run-all K v calls)
+
+  -- The same after a load into any memory, whose sizes and whose file's header are accepted: also where a record is then refused.
+  abbrev pub Promises-after-load : Type 0
+  Promises-after-load =
+      (m : Memory PS PC) (f : List ℕ) (hd : Header) → headed K m f ≡ Ok hd → (calls : List (Call PS)) →
+      Kept-promises (fed-all K (fed-file K (fresh (length (m .cells)) (length (m .records))) f (Ok hd)) calls) (run-all K (load-leaves K m f) calls)

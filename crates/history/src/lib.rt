@@ -1,14 +1,16 @@
 // What is promised of every volume: each statement stands on the contract of a function, and specs/ has its text.
 
 ghost use Rattle.history.specs.Filing.{Files-that-load};
-ghost use Rattle.history.specs.Promises.{Promises};
+ghost use Rattle.history.specs.Promises.{Promises, Promises-after-load};
 ghost use Rattle.history.specs.Soundness.{Checks-exactly};
 ghost use Rattle.history.specs.Worked.{Worked};
 use kind::Kind;
 
 // After a format that is accepted, every sequence of calls, refused ones included, leaves a volume whose answers are those of the plain history.
+// The same after a load into any memory.
 pub fn promises_stand<K: Kind>() -> u8
-    ensures { λ _. ⌜ Promises (K·Kind .model) ⌝ }
+    ensures formatted { λ _. ⌜ Promises (K·Kind .model) ⌝ }
+    ensures loaded { λ _. ⌜ Promises-after-load (K·Kind .model) ⌝ }
 {
     0
 }

@@ -13,7 +13,7 @@ pub enum Wrong {
     Cell(u32),
 }
 
-// A refused call changes nothing. Each refusal has a number, by which documents, scripts and C know it.
+// A refused call changes nothing, but that a check refused by 20 leaves its work row, and a load refused by 15 to 17 a formatted volume. Each has a number, by which documents, scripts and C know it.
 #[derive(Clone, Copy)]
 pub enum Refusal {
     // 1: there is no cell, or more than 4,096

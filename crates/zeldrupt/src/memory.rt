@@ -193,12 +193,7 @@ impl<K: Notation> Memory<K> {
     }
 
     // Writes the volume's file to a path, through an area of just its length or of the length that is asked for.
-    fn save(
-        &mut self,
-        rt: &LibcRuntime,
-        path: &str,
-        area: Option<u32>,
-    ) -> Result<String, Fault> {
+    fn save(&mut self, rt: &LibcRuntime, path: &str, area: Option<u32>) -> Result<String, Fault> {
         let length = match area {
             Some(n) => n as usize,
             None => file_length::<K>(self.count.min(LIMIT)),
