@@ -264,6 +264,13 @@ module _ {PS PC : Type 0} (K : Model PS PC) (L : Laws K) where
       subst (λ r. Canonical K (fed-file K h f (Ok hd)) (kept m (andThen r (λ hd. Ok (settled K (reached K f start (hd .count)) (took-to K f start (hd .count))))))) (sym e)
       (settles h m z refl refl E f (hd .count) fits (entries-read K (h .cells) f (hd .count)) (took-to K f start (hd .count)) (all-tell h m z refl refl E f (hd .count) fits))
 
+  pub load-answers : (m : Memory PS PC) (f : List ℕ) (hd : Header) → headed K m f ≡ Ok hd → replied K m (load f) ≡ predicted K (fresh (length (m .cells)) (length (m .records))) (load f)
+  load-answers m f hd e =
+      let handed : Handed = record { cells = length (m .cells); room = length (m .records) } in
+      let (x, a, b) = then-ok (sized (length (m .cells)) (length (m .heads)) (length (m .records))) (λ _. refused-as File (header-of K (Some handed) f)) hd e in
+      let z = sized-only (length (m .cells)) (length (m .heads)) (length (m .records)) x a in
+      load-is-told (fresh (length (m .cells)) (length (m .records))) m z refl refl (blank-canonical K L m z) f
+
   pub load-told : {h : History (K .State)} {v : Memory PS PC} → Canonical K h v → (f : List ℕ) → replied K v (load f) ≡ predicted K h (load f)
   load-told {h} {v} C f = load-is-told h v (C .sizes) (C .all-cells) (C .all-records) (empty-canonical K L C) f
 

@@ -25,7 +25,7 @@ use Rattle.history.proofs.Canonical.{Canonical, blank-canonical, empty-canonic
 use Rattle.history.proofs.Checked.{check-told}
 use Rattle.history.proofs.Entered.{writes-head}
 use Rattle.history.proofs.Filed.{save-told, save-only}
-use Rattle.history.proofs.Loaded.{load-told, load-keeps, load-starts}
+use Rattle.history.proofs.Loaded.{load-told, load-keeps, load-starts, load-answers}
 use Rattle.history.proofs.Recalled.{fit, recall-back}
 use Rattle.history.proofs.Replayed.{replay-told, replays-there}
 use Rattle.history.proofs.Reverted.{revert-told, revert-keeps}
@@ -175,4 +175,4 @@ module _ {PS PC : Type 0} (K : Model PS PC) (L : Laws K) where
       kept-promises (keeps-all ks (subst (λ w. Canonical K (fresh (length (m .cells)) (length (m .records))) w) (only .1) (blank-canonical K L m (only .0))))
 
   pub promises-after-load : Promises-after-load K
-  promises-after-load m f hd e ks = kept-promises (keeps-all ks (load-starts K L m f hd e))
+  promises-after-load m f hd e = (load-answers K L m f hd e, λ ks. kept-promises (keeps-all ks (load-starts K L m f hd e)))

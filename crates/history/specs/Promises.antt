@@ -16,7 +16,7 @@ use Rattle.volume.specs.Replays.{replayed}
 use Rattle.volume.specs.Rolls.{rolled}
 use Rattle.volume.specs.Saves.{saved}
 use Rattle.history.specs.History.{History, count, last-entry, entries-of, stood, image}
-use Rattle.history.specs.Calls.{Call, run-all, fed-file, fed-all, replied, predicted}
+use Rattle.history.specs.Calls.{Call, load, run-all, fed-file, fed-all, replied, predicted}
 
 -- the history of a volume of these sizes that is just formatted
 abbrev pub fresh : {S : Type 0} → ℕ → ℕ → History S
@@ -79,8 +79,10 @@ module _ {PS PC : Type 0} (K : Model PS PC) where
       (m v : Memory PS PC) → formatted K m ≡ Ok v → (calls : List (Call PS)) →
       Kept-promises (fed-all K (fresh (length (m .cells)) (length (m .records))) calls) (run-all K v calls)
 
-  -- The same after a load into any memory, whose sizes and whose file's header are accepted: also where a record is then refused.
+  -- The same after a load into any memory, whose sizes and whose file's header are accepted, also where a record is then refused; and the load
+  -- itself is answered as predicted.
   abbrev pub Promises-after-load : Type 0
   Promises-after-load =
-      (m : Memory PS PC) (f : List ℕ) (hd : Header) → headed K m f ≡ Ok hd → (calls : List (Call PS)) →
-      Kept-promises (fed-all K (fed-file K (fresh (length (m .cells)) (length (m .records))) f (Ok hd)) calls) (run-all K (load-leaves K m f) calls)
+      (m : Memory PS PC) (f : List ℕ) (hd : Header) → headed K m f ≡ Ok hd →
+      (replied K m (load f) ≡ predicted K (fresh (length (m .cells)) (length (m .records))) (load f))
+      × ((calls : List (Call PS)) → Kept-promises (fed-all K (fed-file K (fresh (length (m .cells)) (length (m .records))) f (Ok hd)) calls) (run-all K (load-leaves K m f) calls))
