@@ -67,6 +67,36 @@ def recall(file, cell, moment, area):
     return 0, state + area[width:]
 
 
+TALLIES = bytes.fromhex("5401020002000000" "00000000000005000000" "000000000100feffffff")
+SWAP_0_1, SWAP_1_2 = bytes([1, 0] + list(range(2, 16))), bytes([0, 2, 1] + list(range(3, 16)))
+MAPS = bytes.fromhex("4d01010002000000" "000000000000") + SWAP_0_1 + bytes.fromhex("010000000000") + SWAP_1_2
+
+# calls worked out by hand: file, cell, moment, answer and, where it is 0, the state
+WORKED = [
+    (TALLIES, 0, 0, 0, bytes(4)),
+    (TALLIES, 0, 2, 0, bytes([5, 0, 0, 0])),
+    (TALLIES, 1, 2, 0, bytes([254, 255, 255, 255])),
+    (TALLIES, 0, 3, 14, None),
+    (TALLIES, 2, 0, 13, None),
+    (TALLIES[:27], 0, 2, 10, None),
+    (TALLIES + bytes(1), 0, 2, 10, None),
+    (TALLIES[:18] + bytes([1]) + TALLIES[19:], 1, 2, 16, None),
+    (TALLIES[:18] + bytes([1]) + TALLIES[19:], 1, 1, 0, bytes(4)),
+    (TALLIES[:22] + bytes([2]) + TALLIES[23:], 0, 2, 15, None),
+    (MAPS, 0, 2, 0, bytes([2, 0, 1] + list(range(3, 16)))),
+    (MAPS[:14] + bytes(16) + MAPS[30:], 0, 2, 17, None),
+]
+
+
+def worked_calls():
+    for file, cell, moment, answer, state in WORKED:
+        area = bytes([170] * 20)
+        after = area if state is None else state + area[len(state) :]
+        if recall(file, cell, moment, area) != (answer, after):
+            raise SystemExit(f"the comparison itself is wrong: cell {cell}, moment {moment}, expected {answer}")
+        yield file, cell, moment, area
+
+
 def some_change(rng, kind):
     if kind == "M":
         numbers = list(range(16))
@@ -156,7 +186,7 @@ def main():
     calls = int(sys.argv[2]) if len(sys.argv) > 2 else 20000
     seed = int(sys.argv[3]) if len(sys.argv) > 3 else 1
     rng = random.Random(seed)
-    cases = [some_call(rng) for _ in range(calls)] + list(long_calls(rng))
+    cases = list(worked_calls()) + [some_call(rng) for _ in range(calls)] + list(long_calls(rng))
     sent = b"".join(struct.pack("<IIII", len(f), c, m, len(a)) + f + a for f, c, m, a in cases)
     got = subprocess.run([driver], input=sent, stdout=subprocess.PIPE, check=True).stdout
     at, wrong, answers = 0, 0, {}

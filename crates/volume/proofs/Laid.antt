@@ -4,7 +4,6 @@ use mathlib.Core.Bool.{Bool, true, false, cond, _&&_}
 use mathlib.Core.List.{List, [], _∷_, _++_, map, map-append}
 use Prim.Native.Nat.{ℕ, _+_, _-_, _*_, _<_, _≤_}
 use native.Mathlib.Nat.{mul-le-mul-right, suc-mul}
-use native.Mathlib.Numerals.{add-one}
 use native.Mathlib.Omega.{arith}
 use lib.Dec.{ltb, leb}
 use lib.ListN.{length, take, drop, getD, length-map}
@@ -35,6 +34,14 @@ record-fits w count i size l room =
     let same : (i + 1 - 1) * (6 + w) ≡ i * (6 + w) = ap (λ n. n * (6 + w)) (omega arith) in
     omega (arith, k, m, same)
 
+module _ {PS PC : Type 0} (K : Model PS PC) (laws : Laws K) (cells count : ℕ) where
+  pub header-put : (letter : ℕ) (r : Bool) (was area : List ℕ) → letter ≡ K .letter → 8 ≤ length was → r ≡ ltb letter 256 && leb 8 (length was) → area ≡ cond r (header-form letter cells count ++ drop 8 was) was → area ≡ header-form (K .letter) cells count ++ drop 8 was
+  header-put letter r was area el room er ea =
+      let low = laws .letter-low in
+      let e0 : ltb letter 256 ≡ true = lt-ltb letter 256 (omega (arith, low, el)) in
+      let e1 : leb 8 (length was) ≡ true = le-leb 8 (length was) room in
+      ea ∙ cond-true r _ _ (er ∙ ap (λ b. b && leb 8 (length was)) e0 ∙ e1) ∙ ap (λ x. header-form x cells count ++ drop 8 was) el
+
 module _ {PS PC : Type 0} (K : Model PS PC) (laws : Laws K) (rs : List (Record PC)) where
   lines-long : (n : ℕ) → n ≤ length rs → length (lines-of K rs n) ≡ n
   lines-long n l = length-map (take n rs) (line-of K) ∙ length-take-le n rs l
@@ -46,13 +53,6 @@ module _ {PS PC : Type 0} (K : Model PS PC) (laws : Laws K) (rs : List (Record P
       ∙ ap (λ x. lines-of K rs i ++ (line-of K x ∷ [])) (sym (q ∙ ap (λ k. getD rs k (blank K)) at))
 
   module _ (cells count : ℕ) where
-    pub header-put : (letter : ℕ) (r : Bool) (was area : List ℕ) → letter ≡ K .letter → 8 ≤ length was → r ≡ ltb letter 256 && leb 8 (length was) → area ≡ cond r (header-form letter cells count ++ drop 8 was) was → area ≡ header-form (K .letter) cells count ++ drop 8 was
-    header-put letter r was area el room er ea =
-        let low = laws .letter-low in
-        let e0 : ltb letter 256 ≡ true = lt-ltb letter 256 (omega (arith, low, el)) in
-        let e1 : leb 8 (length was) ≡ true = le-leb 8 (length was) room in
-        ea ∙ cond-true r _ _ (er ∙ ap (λ b. b && leb 8 (length was)) e0 ∙ e1) ∙ ap (λ x. header-form x cells count ++ drop 8 was) el
-
     pub laid-more : (i : ℕ) (area after out : List ℕ) (r : Record PC) → i < length rs → r ≡ numbered K rs (i + 1) → area ≡ written K cells count (lines-of K rs i) out → after ≡ record-laid K (i + 1) (line-of K r) area → after ≡ written K cells count (lines-of K rs (i + 1)) out
     laid-more i area after out r l q e a =
         a ∙ ap (record-laid K (i + 1) (line-of K r)) e

@@ -10,7 +10,7 @@ use file::header::read_header;
 use file::states::state_after;
 use kind::Kind;
 
-fn tell<K: Kind>(file: &[u8], cell: u32, moment: u32, out: &mut [u8]) -> Result<(), Refusal>
+fn recall_state<K: Kind>(file: &[u8], cell: u32, moment: u32, out: &mut [u8]) -> Result<(), Refusal>
     ensures answer { λ r. ⌜ r ≡ told tt (told-from (K·Kind .model) (now (file .entry)) cell moment (length (now (out .entry)))) ⌝ }
     ensures area { λ _. ⌜ now (out .exit) ≡ area-after (now (out .entry)) (told-from (K·Kind .model) (now (file .entry)) cell moment (length (now (out .entry)))) ⌝ }
 {
@@ -35,5 +35,5 @@ pub fn recall<K: Kind>(file: &[u8], cell: u32, moment: u32, out: &mut [u8]) -> R
     ensures answer { λ r. ⌜ r ≡ told tt (recalled (K·Kind .model) (now (file .entry)) cell moment (length (now (out .entry)))) ⌝ }
     ensures area { λ _. ⌜ now (out .exit) ≡ area-after (now (out .entry)) (recalled (K·Kind .model) (now (file .entry)) cell moment (length (now (out .entry)))) ⌝ }
 {
-    tell::<K>(file, cell, moment, out)
+    recall_state::<K>(file, cell, moment, out)
 }

@@ -3,4 +3,4 @@ use Rattle.volume.proofs.recalls.recall.Needs as need
 
 pub returns : need.returns
 unfolding recalled
-returns g c = c .tell .ensures
+returns g c = c .recall-state .ensures

@@ -25,5 +25,5 @@ returns g c =
     let rs = c .args .records .now in
     let out = c .write-header .last .out in
     let all : c .loop-i .i ≡ c .args .count = omega arith in
-    let head = header-put K laws rs (c .args .cells) (c .args .count) (c .file-letter .result) (c .write-header .result) (c .args .area .now) out (c .file-letter .ensures) (omega arith) (c .write-header .ensures .done) (c .write-header .ensures .area) in
+    let head = header-put K laws (c .args .cells) (c .args .count) (c .file-letter .result) (c .write-header .result) (c .args .area .now) out (c .file-letter .ensures) (omega arith) (c .write-header .ensures .done) (c .write-header .ensures .area) in
     c .loop-i .inv ∙ ap (λ n. written K (c .args .cells) (c .args .count) (lines-of K rs n) out) all ∙ laid-behind K laws rs (c .args .cells) (c .args .count) (c .args .count) out (c .args .area .now) head

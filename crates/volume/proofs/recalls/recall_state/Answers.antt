@@ -1,4 +1,4 @@
-use mathlib.Core.Path.{_≡_, sym, ap, _∙_}
+use mathlib.Core.Path.{sym, ap, _∙_}
 use mathlib.Core.List.{_++_}
 use native.Mathlib.Omega.{arith}
 use lib.ListN.{length, drop}
@@ -6,7 +6,7 @@ use Rattle.std.proofs.shelf.Tests.{le-leb, cond-true}
 use Rattle.kind.specs.Answers.{told}
 use Rattle.volume.specs.Areas.{area-after}
 use Rattle.volume.proofs.Recalled.{told-right}
-use Rattle.volume.proofs.recalls.tell.Needs as need
+use Rattle.volume.proofs.recalls.recall_state.Needs as need
 
 pub returns : need.returns
 returns g c =
