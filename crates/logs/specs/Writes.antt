@@ -45,10 +45,6 @@ module _ {PS PC : Type 0} (K : Model PS PC) where
   abbrev pub between : List (Write PC) → ℕ → ℕ → ℕ → K .Change
   between ws c a b = composed (changesTo c (take (b - a) (drop a ws)))
 
-  -- the state of cell c at a moment
-  abbrev pub stateAt : List (Write PC) → ℕ → ℕ → K .State
-  stateAt ws c m = K .act (between ws c 0 m) (K .origin)
-
   -- how many writes are to cell c
   abbrev pub writesTo : List (Write PC) → ℕ → ℕ
   writesTo ws c = length (changesTo c ws)
