@@ -1,2 +1,4 @@
 // The volume for other languages.
+#![tactic(auto)]
+
 pub mod calls;

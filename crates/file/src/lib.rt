@@ -1,4 +1,6 @@
 // The saved form of a volume: a header of eight bytes, then one record after another.
+#![tactic(auto)]
+
 pub mod changes;
 pub mod faults;
 pub mod forms;

@@ -1,4 +1,5 @@
 // What is promised of every volume: each statement stands on the contract of a function, and specs/ has its text.
+#![tactic(auto)]
 
 ghost use Rattle.history.specs.Filing.{FilesThatLoad};
 ghost use Rattle.history.specs.Promises.{Promises, PromisesAfterLoad};

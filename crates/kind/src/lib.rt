@@ -1,4 +1,6 @@
 // Kinds of cell: what their states and changes are, and the three kinds on board.
+#![tactic(auto)]
+
 pub mod arrangement;
 pub mod bank_map;
 pub mod block;

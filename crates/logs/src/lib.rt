@@ -1,4 +1,5 @@
 // What the journal makes of a log that writes left: each theorem stands on the contract of a function, and specs/Theorems.antt states it.
+#![tactic(auto)]
 
 ghost use Rattle.logs.specs.Theorems.{NeverRefused, HeadMoves, SpansRight, StepsFew, EachRecord};
 

@@ -1,4 +1,6 @@
 // A volume: cells with the log of their changes, in memory that the caller lends.
+#![tactic(auto)]
+
 mod calls;
 mod checks;
 mod loads;

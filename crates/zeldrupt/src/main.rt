@@ -1,4 +1,6 @@
 // Runs a script of commands on a volume, a line each, and prints each command with its answer.
+#![tactic(auto)]
+
 mod fault;
 mod lists;
 mod memory;
