@@ -3,13 +3,12 @@
 # Usage: tests/bus/run.sh [CALLS] [SEED]
 set -eu
 cd "$(dirname "$0")/../.."
-rattle=${RATTLE:-/opt/rattle}
-${RT:-rt} staticlib bus > /dev/null
-out=target/tests-bus
+(cd crates/bus && ${RT:-rt} lib > /dev/null)
+out=crates/bus/out/tests
 mkdir -p "$out"
 for program in example driver; do
     ${CC:-cc} -std=c11 -D_DEFAULT_SOURCE -Wall -Wextra -Werror -O1 -I crates/bus/include "tests/bus/$program.c" \
-        target/staticlib/libbus.a "$rattle/lib/librattle_c.a" -o "$out/$program"
+        crates/bus/out/libbus.a -o "$out/$program"
 done
 "$out/example" | diff - tests/bus/example.txt
 echo "the example prints what it should"

@@ -10,5 +10,5 @@ returns g c =
     let w = g.K.Kind.model.width in
     let tail = part_to_end out 6 in
     let within : 6 ≤ length out = omega arith in
-    let fits = c.write-change.ensures.0 ∙ part_fits out out _ out 6 w within tail ∙ le-leb (6 + w) (length out) c.requires in
-    part_put out _ _ _ 6 w within tail c.write-change.result c.write-change.ensures.1 ∙ cond-true _ _ _ fits
+    let fits = c.write_change.ensures.0 ∙ part_fits out out _ out 6 w within tail ∙ le-leb (6 + w) (length out) c.requires in
+    part_put out _ _ _ 6 w within tail c.write_change.result c.write_change.ensures.1 ∙ cond-true _ _ _ fits

@@ -12,6 +12,6 @@ returns g c =
     let form = record_form K (record { next = c.args.next; cell = c.args.cell; change = K.change c.args.change.now }) in
     let tail = part_to_end out c.args.start in
     record {
-      done = c.write-record.ensures.done ∙ part_fits out out _ out c.args.start k c.requires tail;
-      area = part_put out form _ _ c.args.start k c.requires tail c.write-record.result c.write-record.ensures.area;
+      done = c.write_record.ensures.done ∙ part_fits out out _ out c.args.start k c.requires tail;
+      area = part_put out form _ _ c.args.start k c.requires tail c.write_record.result c.write_record.ensures.area;
     }

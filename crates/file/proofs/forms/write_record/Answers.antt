@@ -11,7 +11,7 @@ returns g c =
     record {
       done = sym (le-leb _ _ (omega arith));
       area =
-          record_put c.record-head.result form was c.put.new.out c.put-change.new.out K.width c.put.result
-          (ap length c.record-head.ensures) (omega arith) c.put.ensures.done c.put.ensures.area c.put-change.ensures
-          ∙ ap (λ h. h ++ (form ++ drop (6 + K.width) was)) c.record-head.ensures;
+          record_put c.record_head.result form was c.put.new.out c.put_change.new.out K.width c.put.result
+          (ap length c.record_head.ensures) (omega arith) c.put.ensures.done c.put.ensures.area c.put_change.ensures
+          ∙ ap (λ h. h ++ (form ++ drop (6 + K.width) was)) c.record_head.ensures;
     }

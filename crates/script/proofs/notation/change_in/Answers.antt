@@ -5,5 +5,5 @@ use Rattle.script.proofs.notation.change_in.Goals as goal
 
 pub returns : goal.returns
 returns g c =
-    let wrote = c.write-change-whole.ensures in
+    let wrote = c.write_change-whole.ensures in
     subst (λ (x : List ℕ). IfOk c.render.result (λ t. string_bytes t ≡ hex_of x)) (whole _ _ _ _ _ c.requires wrote.0 wrote.1) c.render.ensures

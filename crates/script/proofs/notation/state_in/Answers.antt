@@ -5,5 +5,5 @@ use Rattle.script.proofs.notation.state_in.Goals as goal
 
 pub returns : goal.returns
 returns g c =
-    let wrote = c.write-state-whole.ensures in
+    let wrote = c.write_state-whole.ensures in
     subst (λ (x : List ℕ). IfOk c.render.result (λ t. string_bytes t ≡ hex_of x)) (whole _ _ _ _ _ c.requires wrote.0 wrote.1) c.render.ensures

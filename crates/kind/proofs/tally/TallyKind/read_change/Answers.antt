@@ -10,8 +10,8 @@ use Rattle.kind.proofs.tally.TallyKind.read_change.Goals as goal
 pub returns : goal.returns
 returns c =
     let bs = c.args.bytes.now in
-    let n = c.from-le-bytes.result in
+    let n = c.from_le_bytes.result in
     let four : length bs ≡ 4 = search rules in
-    let kept = word_read_is bs four (bytes_from_get_or bs (λ i _. (c.type-inv.bytes i).fits)) in
-    let small : n ≡ le32 bs % 2 ^ 32 = omega (arith, c.from-le-bytes.ensures) in
-    ap (λ z. Ok (to_z w32 z)) (ap (of_z w32) c.cast-signed.ensures ∙ of_z-to_z w32 n c.from-le-bytes.type-inv ∙ small) ∙ sym (ap (result_map_both tally.plain_change (λ e. e)) kept)
+    let kept = word_read_is bs four (bytes_from_get_or bs (λ i _. (c.type_inv.bytes i).fits)) in
+    let small : n ≡ le32 bs % 2 ^ 32 = omega (arith, c.from_le_bytes.ensures) in
+    ap (λ z. Ok (to_z w32 z)) (ap (of_z w32) c.cast_signed.ensures ∙ of_z-to_z w32 n c.from_le_bytes.type_inv ∙ small) ∙ sym (ap (result_map_both tally.plain_change (λ e. e)) kept)
