@@ -11,8 +11,8 @@ returns g c =
     let m = held c.args.self.now in
     let out = c.args.area.now in
     let within : m.count ≤ length m.records = search rules in
-    let e = saved_right K m (length out) c.in-ok-check-memory.ensures (omega arith) c.in-ok-try-records.ensures in
+    let e = saved_right K m (length out) c.in_ok-check_memory.ensures (omega arith) c.in_ok-try_records.ensures in
     record {
-      answer = ap (λ n. Ok n) (c.file-length-length.ensures ∙ sym (file_long K laws m.records (length m.cells) m.count within)) ∙ ap length_of (sym e);
-      after = c.put-file.ensures ∙ laid_all K laws m.records (length m.cells) m.count out within ∙ ap (area_after out) (sym e);
+      answer = ap (λ n. Ok n) (c.file_length-length.ensures ∙ sym (file_long K laws m.records (length m.cells) m.count within)) ∙ ap length_of (sym e);
+      after = c.put_file.ensures ∙ laid_all K laws m.records (length m.cells) m.count out within ∙ ap (area_after out) (sym e);
     }

@@ -3,4 +3,4 @@ use Rattle.volume.proofs.Volume.load.Goals as goal
 
 pub returns : goal.returns
 unfolding loaded load_leaves
-returns g c = c.fill-from.ensures
+returns g c = c.fill_from.ensures

@@ -3,4 +3,4 @@ use Rattle.volume.proofs.Volume.read.Goals as goal
 
 pub returns : goal.returns
 unfolding state_read
-returns g c = c.read-cell.ensures
+returns g c = c.read_cell.ensures

@@ -7,5 +7,5 @@ pub returns : goal.returns
 returns g c =
     let cells = c.args.self.now.cells.now in
     let d = origin g.K.Kind.model in
-    let put : c.copy-state.new.place ≡ get_or cells c.args.cell d = c.copy-state.ensures ∙ get_or_default cells c.args.cell c.copy-state.new.place d (omega arith) in
+    let put : c.copy_state.new.place ≡ get_or cells c.args.cell d = c.copy_state.ensures ∙ get_or_default cells c.args.cell c.copy_state.new.place d (omega arith) in
     search rules

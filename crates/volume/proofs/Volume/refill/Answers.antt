@@ -7,8 +7,8 @@ use Rattle.volume.specs.Reverts.{count_of}
 use Rattle.volume.proofs.Takes.{all_in}
 use Rattle.volume.proofs.Volume.refill.Goals as goal
 
-pub take-records-requires : goal.take-records-requires
-take-records-requires g c =
+pub take_records-requires : goal.take_records-requires
+take_records-requires g c =
     let before = c.args.self.now in
     let blank = c.empty.ensures.after in
     record {
@@ -25,8 +25,8 @@ returns-in-Ok g c =
     let K = g.K.Kind.model in
     let f = c.args.file.now in
     let m = held c.args.self.now in
-    let t = c.take-records.ensures in
-    let all = all_in K f m (held c.empty.new.self) (held c.take-records.new.self) c.args.count c.take-records.result c.empty.ensures.after t.answer t.after c.in-Ok.is in
+    let t = c.take_records.ensures in
+    let all = all_in K f m (held c.empty.new.self) (held c.take_records.new.self) c.args.count c.take_records.result c.empty.ensures.after t.answer t.after c.in-Ok.is in
     record {
       answer = sym (ap count_of all);
       after = sym (ap (settled K (reached K f (emptied K m) c.args.count)) all);

@@ -3,4 +3,4 @@ use Rattle.volume.proofs.Volume.replay.Goals as goal
 
 pub returns : goal.returns
 unfolding replayed
-returns g c = c.remake-image.ensures
+returns g c = c.remake_image.ensures

@@ -3,4 +3,4 @@ use Rattle.volume.proofs.Volume.revert.Goals as goal
 
 pub returns : goal.returns
 unfolding reverted
-returns g c = c.take-back.ensures
+returns g c = c.take_back.ensures

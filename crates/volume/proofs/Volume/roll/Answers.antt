@@ -3,4 +3,4 @@ use Rattle.volume.proofs.Volume.roll.Goals as goal
 
 pub returns : goal.returns
 unfolding rolled
-returns g c = c.move-image.ensures
+returns g c = c.move_image.ensures

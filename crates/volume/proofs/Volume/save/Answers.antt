@@ -3,4 +3,4 @@ use Rattle.volume.proofs.Volume.save.Goals as goal
 
 pub returns : goal.returns
 unfolding saved
-returns g c = c.lay-down.ensures
+returns g c = c.lay_down.ensures

@@ -3,4 +3,4 @@ use Rattle.volume.proofs.Volume.span.Goals as goal
 
 pub returns : goal.returns
 unfolding change_between
-returns g c = c.find-span.ensures
+returns g c = c.find_span.ensures

@@ -3,5 +3,5 @@ use Rattle.std.proofs.lemmas.List.{set-get_or}
 use Rattle.volume.proofs.Volume.sweep_cell.Goals as goal
 
 -- a cell whose span is refused keeps its state
-pub returns-in-default : goal.returns-in-default
-returns-in-default g c = search (rules, set-get_or)
+pub returns-in_default : goal.returns-in_default
+returns-in_default g c = search (rules, set-get_or)

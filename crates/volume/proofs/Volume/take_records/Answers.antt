@@ -5,28 +5,28 @@ use Rattle.volume.specs.Memory.{held}
 use Rattle.volume.proofs.Takes.{takes_more, takes_stop, takes_all}
 use Rattle.volume.proofs.Volume.take_records.Goals as goal
 
-pub returns-in-err-take-record : goal.returns-in-err-take-record
-returns-in-err-take-record g c =
-    let s = takes_stop g.K.Kind.model c.args.file.now (held c.args.self.now) c.loop-i.i (held c.loop-i.self) (held c.take-record.new.self) c.take-record.result c.loop-i.invariant.0 c.take-record.ensures.answer c.take-record.ensures.after c.args.count _ (omega arith) c.in-err-take-record.was in
+pub returns-in_err-take_record : goal.returns-in_err-take_record
+returns-in_err-take_record g c =
+    let s = takes_stop g.K.Kind.model c.args.file.now (held c.args.self.now) c.loop-i.i (held c.loop-i.self) (held c.take_record.new.self) c.take_record.result c.loop-i.invariant.0 c.take_record.ensures.answer c.take_record.ensures.after c.args.count _ (omega arith) c.in_err-take_record.was in
     record {
-      answer = exit c.from-residual.result _ c.from-residual.ensures.1 ∙ sym (ap (told tt) s.0);
+      answer = exit c.from_residual.result _ c.from_residual.ensures.1 ∙ sym (ap (told tt) s.0);
       after = s.1;
-      cells_same = c.take-record.ensures.cells_same ∙ c.loop-i.invariant.3;
-      heads_same = c.take-record.ensures.heads_same ∙ c.loop-i.invariant.4;
-      records_same = c.take-record.ensures.records_same ∙ c.loop-i.invariant.5;
-      count_same = c.take-record.ensures.count_same ∙ c.loop-i.invariant.6;
+      cells_same = c.take_record.ensures.cells_same ∙ c.loop-i.invariant.3;
+      heads_same = c.take_record.ensures.heads_same ∙ c.loop-i.invariant.4;
+      records_same = c.take_record.ensures.records_same ∙ c.loop-i.invariant.5;
+      count_same = c.take_record.ensures.count_same ∙ c.loop-i.invariant.6;
     }
 
 pub loop-i-preserved : goal.loop-i-preserved
 loop-i-preserved g c =
-    let s = takes_more g.K.Kind.model c.args.file.now (held c.args.self.now) c.loop-i.i (held c.loop-i.self) (held c.take-record.new.self) c.take-record.result c.loop-i.invariant.0 c.take-record.ensures.answer c.take-record.ensures.after c.in-ok-take-record.was in (
+    let s = takes_more g.K.Kind.model c.args.file.now (held c.args.self.now) c.loop-i.i (held c.loop-i.self) (held c.take_record.new.self) c.take_record.result c.loop-i.invariant.0 c.take_record.ensures.answer c.take_record.ensures.after c.in_ok-take_record.was in (
       s.0,
       s.1.1 ∙ c.loop-i.invariant.1 ∙ sym s.1.0,
       s.1.2 ∙ ap (λ n. n + 1) c.loop-i.invariant.2,
-      c.take-record.ensures.cells_same ∙ c.loop-i.invariant.3,
-      c.take-record.ensures.heads_same ∙ c.loop-i.invariant.4,
-      c.take-record.ensures.records_same ∙ c.loop-i.invariant.5,
-      c.take-record.ensures.count_same ∙ c.loop-i.invariant.6,
+      c.take_record.ensures.cells_same ∙ c.loop-i.invariant.3,
+      c.take_record.ensures.heads_same ∙ c.loop-i.invariant.4,
+      c.take_record.ensures.records_same ∙ c.loop-i.invariant.5,
+      c.take_record.ensures.count_same ∙ c.loop-i.invariant.6,
     )
 
 pub returns : goal.returns

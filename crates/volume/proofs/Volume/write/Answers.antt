@@ -3,4 +3,4 @@ use Rattle.volume.proofs.Volume.write.Goals as goal
 
 pub returns : goal.returns
 unfolding written
-returns g c = c.set-cell.ensures
+returns g c = c.set_cell.ensures

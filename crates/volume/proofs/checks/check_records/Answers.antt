@@ -4,14 +4,14 @@ use Rattle.volume.specs.Checks.{newest_to, record_right}
 use Rattle.volume.proofs.Examined.{took, left_out}
 use Rattle.volume.proofs.checks.check_records.Goals as goal
 
-pub returns-then-not-take-in : goal.returns-then-not-take-in
-returns-then-not-take-in g c =
+pub returns-then-not-take_in : goal.returns-then-not-take_in
+returns-then-not-take_in g c =
     let K = g.K.Kind.model in
     let rs = c.args.records.now in
-    let cells = length c.fill-with.new.slice in
+    let cells = length c.fill_with.new.slice in
     let i = c.loop-i.i in
-    let out = left_out K rs cells i c.loop-i.work c.take-in.new.work c.take-in.result c.loop-i.auto.work c.loop-i.invariant.0 c.take-in.ensures.answer c.take-in.ensures.after c.loop-i.invariant.1 c.args.count c.loop-i-test.true c.if-not-take-in.true in
-    let long : cells ≡ length c.args.work.now = c.fill-with.auto.slice in
+    let out = left_out K rs cells i c.loop-i.work c.take_in.new.work c.take_in.result c.loop-i.auto.work c.loop-i.invariant.0 c.take_in.ensures.answer c.take_in.ensures.after c.loop-i.invariant.1 c.args.count c.loop-i-test.true c.if-not-take_in.true in
+    let long : cells ≡ length c.args.work.now = c.fill_with.auto.slice in
     record {
       answer = sym (ap (λ n. each_below (record_right K n rs) c.args.count) (sym long) ∙ out.1);
       after = out.0 ∙ ap (λ n. newest_to K n rs ((i + 1) - 1)) long;
@@ -21,5 +21,5 @@ pub loop-i-preserved : goal.loop-i-preserved
 loop-i-preserved g c =
     let K = g.K.Kind.model in
     let rs = c.args.records.now in
-    let cells = length c.fill-with.new.slice in
-    took K rs cells c.loop-i.i c.loop-i.work c.take-in.new.work c.take-in.result c.loop-i.auto.work c.loop-i.invariant.0 c.take-in.ensures.answer c.take-in.ensures.after c.loop-i.invariant.1 c.if-not-take-in.false
+    let cells = length c.fill_with.new.slice in
+    took K rs cells c.loop-i.i c.loop-i.work c.take_in.new.work c.take_in.result c.loop-i.auto.work c.loop-i.invariant.0 c.take_in.ensures.answer c.take_in.ensures.after c.loop-i.invariant.1 c.if-not-take_in.false

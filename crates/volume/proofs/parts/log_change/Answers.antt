@@ -2,9 +2,9 @@ use Rattle.std.proofs.Common.{rules}
 use Rattle.volume.specs.Calls.{logged}
 use Rattle.volume.proofs.parts.log_change.Goals as goal
 
-pub returns-in-err-record : goal.returns-in-err-record
+pub returns-in_err-record : goal.returns-in_err-record
 unfolding logged
-returns-in-err-record g c = search rules
+returns-in_err-record g c = search rules
 
 pub returns-then-count-capacity : goal.returns-then-count-capacity
 unfolding logged

@@ -3,4 +3,4 @@ use Rattle.volume.proofs.recalls.recall.Goals as goal
 
 pub returns : goal.returns
 unfolding recalled
-returns g c = c.recall-state.ensures
+returns g c = c.recall_state.ensures

@@ -5,23 +5,23 @@ use Rattle.volume.proofs.Laid.{record_fits, header_put, laid_more, laid_behind}
 use Rattle.volume.proofs.Plays.{read_at}
 use Rattle.volume.proofs.saves.put_file.Goals as goal
 
-pub put-record-requires : goal.put-record-requires
-put-record-requires g c = record_fits g.K.Kind.model.width c.args.count c.loop-i.i (length c.loop-i.area) c.loop-i-test.true (omega arith)
+pub put_record-requires : goal.put_record-requires
+put_record-requires g c = record_fits g.K.Kind.model.width c.args.count c.loop-i.i (length c.loop-i.area) c.loop-i-test.true (omega arith)
 
 pub loop-i-preserved : goal.loop-i-preserved
 loop-i-preserved g c =
     let K = g.K.Kind.model in
     let rs = c.args.records.now in
-    let r = c.index-records-place-of.result in
-    let is = read_at K rs c.loop-i.i c.place-of.result r (omega arith) c.place-of.ensures c.index-records-place-of.is in
-    laid_more K g.K.Kind.laws rs c.args.cells c.args.count c.loop-i.i c.loop-i.area c.put-record.new.area c.write-header.new.out r (omega arith) is c.loop-i.invariant c.put-record.ensures
+    let r = c.index-records-place_of.result in
+    let is = read_at K rs c.loop-i.i c.place_of.result r (omega arith) c.place_of.ensures c.index-records-place_of.is in
+    laid_more K g.K.Kind.laws rs c.args.cells c.args.count c.loop-i.i c.loop-i.area c.put_record.new.area c.write_header.new.out r (omega arith) is c.loop-i.invariant c.put_record.ensures
 
 pub returns : goal.returns
 returns g c =
     let K = g.K.Kind.model in
     let laws = g.K.Kind.laws in
     let rs = c.args.records.now in
-    let out = c.write-header.new.out in
+    let out = c.write_header.new.out in
     let all : c.loop-i.i ≡ c.args.count = omega arith in
-    let head = header_put K laws c.args.cells c.args.count c.file-letter.result c.write-header.result c.args.area.now out c.file-letter.ensures (omega arith) c.write-header.ensures.done c.write-header.ensures.area in
+    let head = header_put K laws c.args.cells c.args.count c.file_letter.result c.write_header.result c.args.area.now out c.file_letter.ensures (omega arith) c.write_header.ensures.done c.write_header.ensures.area in
     c.loop-i.invariant ∙ ap (λ n. written K c.args.cells c.args.count (lines_of K rs n) out) all ∙ laid_behind K laws rs c.args.cells c.args.count c.args.count out c.args.area.now head
