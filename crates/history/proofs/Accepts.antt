@@ -1,8 +1,8 @@
 -- A memory that counts as what writes leave is accepted by check. Assumes nothing.
-use Rattle.std.proofs.Common.{◌≡◌, ℕ, zero, suc, ◌+◌, ◌<◌, ◌≤◌, Bool, true, cond, not, ◌&&◌, eqb, ltb, leb, List, [], ◌∷◌, ◌++◌, map, length, get_or, set, Ok, Err, Result, sym, refl, ap, ◌∙◌, subst, inl, inr, arith, lit≤}
+use Rattle.std.proofs.Common.{◌≡◌, ℕ, zero, suc, ◌+◌, ◌<◌, ◌≤◌, true, not, eqb, ltb, List, length, get_or, set, Ok, Err, Result, sym, ap, ◌∙◌, subst, arith, lit≤}
 use Rattle.std.proofs.lemmas.List.{get_or-map, length-map}
-use Rattle.std.proofs.lemmas.Bool.{cases_Bool, cond-true, cond-false, and_from, eq-eqb, lt-ltb, not_from_true}
-use Rattle.kind.specs.Answers.{and_then, each_below, refuse_if, refused_as}
+use Rattle.std.proofs.lemmas.Bool.{cond-false, and_from, eq-eqb, lt-ltb, not_from_true}
+use Rattle.kind.specs.Answers.{and_then, each_below, refused_as}
 use Rattle.kind.specs.Model.{Model, Laws}
 use Rattle.kind.proofs.Tried.{each_ok}
 use Rattle.journal.specs.declared.faults.LadderFault.{LadderFault}
@@ -12,12 +12,11 @@ use Rattle.journal.specs.Appends.{planned}
 use Rattle.journal.specs.Links.{numbered}
 use Rattle.journal.specs.Spans.{spanned}
 use Rattle.volume.specs.Calls.{origin}
-use Rattle.volume.specs.Checks.{newest_to, as_planned, right_record, record_right, head_right, as_changed, cell_right, judged, workable, checked}
+use Rattle.volume.specs.Checks.{newest_to, as_planned, right_record, record_right, head_right, as_changed, cell_right, judged, checked}
 use Rattle.volume.specs.Memory.{Memory}
 use Rattle.volume.specs.Rolls.{acted}
 use Rattle.volume.specs.Sizes.{sound}
 use Rattle.volume.specs.declared.refusal.Refusal.TheVariants.{Unsound}
-use Rattle.volume.specs.declared.refusal.Wrong.{Wrong}
 use Rattle.volume.specs.declared.refusal.Wrong.TheVariants.{Record as WrongRecord, Head as WrongHead, Cell as WrongCell}
 use Rattle.history.specs.History.{History, count}
 use Rattle.history.specs.Soundness.{Alike, CountsAs}

@@ -1,6 +1,6 @@
 -- A file that is read is the file of what was read from it. Assumes nothing.
-use Rattle.std.proofs.Common.{◌≡◌, ℕ, zero, suc, ◌+◌, ◌-◌, ◌*◌, ◌/◌, ◌%◌, ◌<◌, ◌≤◌, Bool, true, false, cond, not, ◌&&◌, ◌||◌, eqb, ltb, leb, List, [], ◌∷◌, ◌++◌, length, get_or, take, drop, Ok, Err, Option, sym, refl, ap, ◌∙◌, subst, suc-mul, arith, length-drop, take-append-drop, length-take}
-use Rattle.std.proofs.lemmas.List.{append_assoc, append-nil, drop-drop, get_or-take, get_or-drop, take_all}
+use Rattle.std.proofs.Common.{◌≡◌, ℕ, zero, suc, ◌+◌, ◌-◌, ◌*◌, ◌<◌, ◌≤◌, true, not, ◌&&◌, eqb, ltb, leb, List, [], ◌∷◌, ◌++◌, length, take, drop, Ok, Option, sym, refl, ap, ◌∙◌, suc-mul, arith, length-drop, take-append-drop, length-take}
+use Rattle.std.proofs.lemmas.List.{append_assoc, append-nil, drop-drop, take_all}
 use Rattle.std.proofs.lemmas.Bool.{and_parts, eqb-true, ltb-true, ltb-false, not-false}
 use Rattle.kind.specs.Bytes.{bytes?, le16, le32}
 use Rattle.kind.specs.Model.{Model, Laws}
@@ -10,7 +10,7 @@ use Rattle.file.specs.declared.header.Header.{Header}
 use Rattle.file.specs.Changes.{change_read}
 use Rattle.file.specs.Forms.{Line, le16_form, le32_form, header_form, record_form, records_form, file_form}
 use Rattle.file.specs.Header.{letter_at, version_at, cells_at, count_at, file_length}
-use Rattle.file.specs.Records.{Parts, parts_of, record_bytes}
+use Rattle.file.specs.Records.{Parts, record_bytes}
 use Rattle.file.specs.States.{saved}
 use Rattle.logs.proofs.Counted.{take_split}
 use Rattle.history.specs.Files.{line, lines_on, entry_read, entries_read}

@@ -1,7 +1,7 @@
 -- A load accepts just the saves of volumes that writes leave. Assumes nothing.
-use Rattle.std.proofs.Common.{◌≡◌, ℕ, suc, ◌+◌, ◌<◌, ◌≤◌, Bool, true, false, cond, not, ◌&&◌, ◌||◌, eqb, ltb, leb, List, [], ◌∷◌, ◌++◌, length, take, Some, None, Ok, Err, Option, Result, sym, refl, ap, ◌∙◌, subst, inl, inr, arith}
-use Rattle.std.proofs.lemmas.List.{append_assoc, append-nil, length_push, length-append, take_all}
-use Rattle.std.proofs.lemmas.Bool.{cases_lt, cond_both, cond-true, and_from, eqb-true, lt-ltb, le-ltb, eq-eqb, not_from_true, not-false, or_parts}
+use Rattle.std.proofs.Common.{◌≡◌, ℕ, ◌+◌, ◌≤◌, true, not, ◌&&◌, ◌||◌, eqb, ltb, List, [], ◌∷◌, ◌++◌, length, Some, None, Ok, Err, Result, sym, refl, ap, ◌∙◌, subst, arith}
+use Rattle.std.proofs.lemmas.List.{append_assoc, append-nil, length_push, take_all}
+use Rattle.std.proofs.lemmas.Bool.{cond_both, cond-true, and_from, eqb-true, lt-ltb, le-ltb, eq-eqb, not_from_true, not-false, or_parts}
 use Rattle.kind.specs.Answers.{and_then, refused_as}
 use Rattle.kind.specs.Bytes.{bytes?}
 use Rattle.kind.specs.Model.{Model, Laws}
@@ -17,17 +17,17 @@ use Rattle.volume.specs.Memory.{Memory}
 use Rattle.volume.specs.Saves.{saved}
 use Rattle.volume.specs.Sizes.{sized}
 use Rattle.volume.specs.declared.refusal.Refusal.{Refusal}
-use Rattle.volume.specs.declared.refusal.Refusal.TheVariants.{File, Area}
-use Rattle.history.specs.Calls.{Call, format, write, read, span, roll, replay, revert, check, save, load, restored, refilled, fed_file, run_all, fed, fed_all}
+use Rattle.volume.specs.declared.refusal.Refusal.TheVariants.{File}
+use Rattle.history.specs.Calls.{write, run_all, fed, fed_all}
 use Rattle.history.specs.Files.{lines_on, file_of_history, entries_read, header_read}
-use Rattle.history.specs.Filing.{SavedAfterWrites, Loads, FilesLoad, FilesThatLoad}
-use Rattle.history.specs.History.{History, Entry, count, extended, appended}
+use Rattle.history.specs.Filing.{SavedAfterWrites, Loads, FilesThatLoad}
+use Rattle.history.specs.History.{History, Entry, count, appended}
 use Rattle.history.specs.Promises.{fresh}
 use Rattle.history.specs.Soundness.{Asked, asks}
-use Rattle.history.proofs.Canonical.{Sizes, Owned, Canonical, blank_canonical}
+use Rattle.history.proofs.Canonical.{Owned, Canonical, blank_canonical}
 use Rattle.history.proofs.Decoded.{file_back}
 use Rattle.history.proofs.Filed.{lines_length, save_made, save_only}
-use Rattle.history.proofs.Loaded.{Passed, passed, with_entries, Tells, all_tell, heads_tell, count_fits, entries_length}
+use Rattle.history.proofs.Loaded.{passed, with_entries, Tells, all_tell, heads_tell, count_fits, entries_length}
 use Rattle.history.proofs.Promised.{keeps_all}
 use Rattle.history.proofs.Rebuilt.{then_ok, as_ok, sized_only}
 use Rattle.history.proofs.Recalled.{Fit, fit, header_is, entries_back}

@@ -1,7 +1,7 @@
 -- What load makes of the memory that a history leaves. Assumes nothing.
-use Rattle.std.proofs.Common.{◌≡◌, ℕ, zero, suc, ◌+◌, ◌<◌, ◌≤◌, Bool, true, false, cond, not, ◌||◌, eqb, ltb, leb, List, [], ◌∷◌, ◌++◌, length, get_or, set, Some, Ok, Err, Option, Result, sym, refl, ap, ◌∙◌, subst, inl, inr, arith}
+use Rattle.std.proofs.Common.{◌≡◌, ℕ, zero, suc, ◌+◌, ◌<◌, ◌≤◌, false, not, ◌||◌, eqb, ltb, leb, List, [], ◌∷◌, ◌++◌, length, get_or, Some, Ok, Err, Option, Result, sym, refl, ap, ◌∙◌, subst, inl, inr, arith}
 use Rattle.std.proofs.lemmas.List.{length_push}
-use Rattle.std.proofs.lemmas.Bool.{cases_lt, cases_eq, cond-true, cond-false, or_parts, eq-eqb, ne_eqb, le-leb, lt-leb, ltb-false, not_from_true, not_from_false}
+use Rattle.std.proofs.lemmas.Bool.{cases_lt, cases_eq, or_parts, eq-eqb, ne_eqb, le-leb, lt-leb, ltb-false, not_from_true, not_from_false}
 use Rattle.kind.specs.Answers.{and_then, refuse_if, refused_as, kept}
 use Rattle.kind.specs.Model.{Model, Laws}
 use Rattle.file.specs.declared.faults.FileFault.{FileFault}
@@ -14,7 +14,7 @@ use Rattle.file.specs.Records.{Parts}
 use Rattle.file.specs.States.{saved}
 use Rattle.volume.specs.Calls.{origin, difference, logged, emptied}
 use Rattle.volume.specs.Loads.{entered, took_parts, took, took_to, reached, headed, settled, loaded, load_leaves}
-use Rattle.volume.specs.Memory.{Memory, memory}
+use Rattle.volume.specs.Memory.{Memory}
 use Rattle.volume.specs.Reverts.{count_of}
 use Rattle.volume.specs.Rolls.{acted}
 use Rattle.volume.specs.Sizes.{sized}

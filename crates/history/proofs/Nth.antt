@@ -5,12 +5,12 @@ use Rattle.kind.specs.Model.{Model, Laws}
 use Rattle.journal.specs.Appends.{planned}
 use Rattle.journal.specs.Links.{numbered}
 use Rattle.logs.specs.Theorems.{Logs}
-use Rattle.logs.specs.Writes.{Write, head_of}
+use Rattle.logs.specs.Writes.{head_of}
 use Rattle.logs.proofs.Proved.{each_record_lem}
 use Rattle.volume.specs.Memory.{Memory}
 use Rattle.history.specs.History.{History, Entry, count, latest, stood}
 use Rattle.history.proofs.Canonical.{Owned, owned_at, Canonical}
-use Rattle.history.proofs.Entered.{writes, writes_on, write_of, writes_append, writes_length, latest_append}
+use Rattle.history.proofs.Entered.{writes, writes_on, write_of, writes_append, writes_length}
 
 -- a list around its n-th element
 pub record Around {X : Type 0} (xs : List X) (n : ℕ) : Type 0 where

@@ -1,18 +1,18 @@
 -- Every call keeps the memory that its history leaves, and answers what the history predicts. Assumes nothing.
-use Rattle.std.proofs.Common.{◌≡◌, ℕ, ◌+◌, ◌<◌, ◌≤◌, Bool, cond, ◌&&◌, ◌||◌, ltb, leb, ◌⊎◌, List, [], ◌∷◌, map, length, get_or, take, Ok, Err, sym, refl, ap, ◌∙◌, subst, inl, inr, arith}
+use Rattle.std.proofs.Common.{◌≡◌, ℕ, ◌+◌, ◌<◌, Bool, cond, ◌&&◌, ◌||◌, ltb, leb, List, [], ◌∷◌, map, length, Ok, Err, sym, ap, ◌∙◌, subst, inl, inr, arith}
 use Rattle.std.proofs.lemmas.List.FromFn.{length-map-range_with_len, get_or-map-range_with_len}
 use Rattle.std.proofs.lemmas.List.{ext_get_or, get_or-map, length-map, take_all}
 use Rattle.std.proofs.lemmas.Bool.{cases_lt, cases_Bool, cond-true, cond-false, and_from, and_left, and_right, le-leb, lt-leb, lt-ltb, le-ltb}
 use Rattle.std.specs.List.{range_with_len}
 use Rattle.kind.specs.Answers.{told, kept, refuse_if}
 use Rattle.kind.specs.Model.{Model, Laws}
-use Rattle.volume.specs.Calls.{origin, emptied}
+use Rattle.volume.specs.Calls.{origin}
 use Rattle.volume.specs.Memory.{Memory}
 use Rattle.volume.specs.Recalls.{recalled}
 use Rattle.volume.specs.declared.refusal.Refusal.TheVariants.{Cell, Moment, Full}
 use Rattle.history.specs.Calls.{Call, format, write, read, span, roll, replay, revert, check, save, load, Reply, counted, state, change, refused, reply, run, run_all, fed, fed_all, replied, predicted}
 use Rattle.history.specs.History.{History, count, appended, last_entry, latest, stood, image}
-use Rattle.history.specs.Promises.{fresh, Stands, KeptPromises, Promises, PromisesAfterLoad}
+use Rattle.history.specs.Promises.{fresh, KeptPromises, Promises, PromisesAfterLoad}
 use Rattle.history.proofs.Canonical.{Canonical, blank_canonical, empty_canonical}
 use Rattle.history.proofs.Checked.{check_told}
 use Rattle.history.proofs.Entered.{writes_head}

@@ -1,7 +1,7 @@
 -- A memory that check accepts is rebuilt by writes. Assumes nothing.
-use Rattle.std.proofs.Common.{◌≡◌, ℕ, zero, suc, ◌+◌, ◌-◌, ◌<◌, ◌≤◌, Bool, true, false, cond, not, ◌&&◌, eqb, ltb, leb, List, [], ◌∷◌, ◌++◌, map, length, get_or, set, replicate, Ok, Err, Result, sym, refl, ap, ◌∙◌, subst, inl, inr, arith}
+use Rattle.std.proofs.Common.{◌≡◌, ℕ, zero, suc, ◌+◌, ◌-◌, ◌<◌, ◌≤◌, Bool, true, false, not, eqb, ltb, List, [], ◌∷◌, ◌++◌, map, length, get_or, set, Ok, Err, Result, sym, refl, ap, ◌∙◌, subst, inl, inr, arith}
 use Rattle.std.proofs.lemmas.List.{ext_get_or, get_or-map, length-map, length_push, length-set, length-replicate, get_or-replicate, get_or-set_same, get_or-set_other}
-use Rattle.std.proofs.lemmas.Bool.{cases_Bool, cases_eq, cases_lt, cond-true, cond-false, and_parts, eqb-true, ltb-true, ltb-false, not-false}
+use Rattle.std.proofs.lemmas.Bool.{cases_eq, cases_lt, and_parts, eqb-true, ltb-true, ltb-false, not-false}
 use Rattle.kind.specs.Answers.{and_then, each_below, refuse_if, refused_as, kept}
 use Rattle.kind.specs.Model.{Model, Laws}
 use Rattle.kind.proofs.Tried.{each_at}
@@ -12,9 +12,9 @@ use Rattle.journal.specs.Appends.{planned}
 use Rattle.journal.specs.Links.{blank, numbered}
 use Rattle.journal.specs.Spans.{spanned}
 use Rattle.logs.proofs.Proved.{never_refused_lem}
-use Rattle.volume.specs.Calls.{origin, written, emptied}
+use Rattle.volume.specs.Calls.{origin, emptied}
 use Rattle.volume.specs.Checks.{newest_to, as_planned, right_record, record_right, head_right, as_changed, cell_right, judged, workable, checked}
-use Rattle.volume.specs.Memory.{Memory, memory}
+use Rattle.volume.specs.Memory.{Memory}
 use Rattle.volume.specs.Rolls.{acted}
 use Rattle.volume.specs.Sizes.{sized, sound}
 use Rattle.volume.specs.declared.refusal.Refusal.{Refusal}
@@ -25,7 +25,7 @@ use Rattle.history.specs.History.{History, count, appended}
 use Rattle.history.specs.Promises.{fresh}
 use Rattle.history.specs.Soundness.{Asked, asks, Alike, CountsAs, LeftByWrites}
 use Rattle.history.proofs.Alikes.{Related, AlikeStretch, planned_alike, spanned_alike}
-use Rattle.history.proofs.Canonical.{Sizes, sized_ok, sized_cases, Canonical, blank_canonical}
+use Rattle.history.proofs.Canonical.{Sizes, sized_cases, Canonical, blank_canonical}
 use Rattle.history.proofs.Checked.{cell_made}
 use Rattle.history.proofs.Spanned.{got, spans}
 use Rattle.history.proofs.Written.{f, r, plans, few, ws, after, formats, write_taken, write_canonical}

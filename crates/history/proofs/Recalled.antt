@@ -1,7 +1,7 @@
 -- What the file of a history says, record by record: its entries, and each cell at each moment. Assumes nothing.
-use Rattle.std.proofs.Common.{◌≡◌, ℕ, zero, suc, ◌+◌, ◌*◌, ◌^◌, ◌<◌, ◌≤◌, min, Bool, false, cond, not, eqb, ltb, leb, List, [], ◌∷◌, ◌++◌, length, take, drop, Some, None, Ok, Err, Option, Result, sym, refl, ap, ◌∙◌, subst, inl, inr, arith}
-use Rattle.std.proofs.lemmas.List.{length-append, length-take, take_all}
-use Rattle.std.proofs.lemmas.Bool.{cases_Bool, cases_lt, cases_eq, cond-true, cond-false, eqb-true, eq-eqb, ne_eqb, lt-leb, lt-ltb, le-ltb, not_from_true}
+use Rattle.std.proofs.Common.{◌≡◌, ℕ, zero, suc, ◌+◌, ◌*◌, ◌<◌, ◌≤◌, min, Bool, false, cond, not, eqb, ltb, leb, List, [], ◌∷◌, ◌++◌, length, take, drop, Some, None, Ok, Err, Option, Result, sym, refl, ap, ◌∙◌, subst, inl, inr, arith}
+use Rattle.std.proofs.lemmas.List.{length-append, length-take}
+use Rattle.std.proofs.lemmas.Bool.{cases_Bool, cond-true, cond-false, eqb-true, eq-eqb, lt-leb, le-ltb, not_from_true}
 use Rattle.kind.specs.Answers.{and_then, refuse_if, refused_as}
 use Rattle.kind.specs.Model.{Model, Laws}
 use Rattle.file.specs.declared.faults.FileFault.{FileFault}
@@ -10,7 +10,7 @@ use Rattle.file.specs.declared.header.Handed.{Handed}
 use Rattle.file.specs.declared.header.Header.{Header}
 use Rattle.file.specs.Changes.{change_read}
 use Rattle.file.specs.Forms.{Line, header_form, record_form, records_form, file_form}
-use Rattle.file.specs.Header.{cells_at, says, other_cells, past_room, file_length, header_of}
+use Rattle.file.specs.Header.{cells_at, other_cells, past_room, header_of}
 use Rattle.file.specs.Records.{Parts, parts_of, record_bytes}
 use Rattle.file.specs.States.{saved, change_for, moved, last_of, replayed, state_after}
 use Rattle.file.proofs.Backs.{header_back, record_back, placed, long}

@@ -1,9 +1,8 @@
 -- What replay answers on the memory that a history leaves. Assumes nothing.
-use Rattle.std.proofs.Common.{◌≡◌, ℕ, zero, suc, ◌+◌, ◌<◌, ◌≤◌, Bool, cond, not, eqb, ltb, leb, List, [], ◌∷◌, map, length, get_or, take, set, replicate, Ok, Err, Result, sym, refl, ap, ◌∙◌, inl, inr, arith}
+use Rattle.std.proofs.Common.{◌≡◌, ℕ, zero, suc, ◌+◌, ◌<◌, ◌≤◌, Bool, cond, not, eqb, ltb, leb, List, [], ◌∷◌, map, length, get_or, take, set, Ok, Err, Result, sym, ap, ◌∙◌, inl, inr, arith}
 use Rattle.std.proofs.lemmas.List.FromFn.{length-map-range_with_len, get_or-map-range_with_len}
 use Rattle.std.proofs.lemmas.List.{ext_get_or, get_or-map, length-map, length-set, length-replicate, get_or-replicate, get_or-set_same, get_or-set_other}
 use Rattle.std.proofs.lemmas.Bool.{cases_eq, cases_lt, cond-true, cond-false, eq-eqb, ne_eqb, lt-ltb, le-ltb, lt-leb, not_from_true, not_from_false}
-use Rattle.std.specs.List.{range_with_len}
 use Rattle.kind.specs.Answers.{and_then, each_below, refuse_if, refused_as}
 use Rattle.kind.specs.Model.{Model, Laws}
 use Rattle.kind.proofs.Tried.{each_ok}
@@ -12,7 +11,7 @@ use Rattle.journal.specs.declared.record.Record.{Record}
 use Rattle.journal.specs.Links.{numbered}
 use Rattle.volume.specs.Calls.{origin}
 use Rattle.volume.specs.Memory.{Memory}
-use Rattle.volume.specs.Replays.{cell_known, played, played_to, replayed}
+use Rattle.volume.specs.Replays.{cell_known, played_to, replayed}
 use Rattle.volume.specs.Rolls.{acted}
 use Rattle.volume.specs.declared.refusal.Refusal.{Refusal}
 use Rattle.volume.specs.declared.refusal.Refusal.TheVariants.{Image, Moment, Ladder}

@@ -1,10 +1,9 @@
 -- What revert makes of the memory that a history leaves. Assumes nothing.
-use Rattle.std.proofs.Common.{◌≡◌, ℕ, zero, suc, ◌+◌, ◌<◌, ◌≤◌, Bool, true, false, cond, ◌&&◌, eqb, ltb, leb, List, [], ◌∷◌, ◌++◌, length, get_or, take, Ok, Err, Result, sym, refl, ap, ◌∙◌, subst, inl, inr, arith}
+use Rattle.std.proofs.Common.{◌≡◌, ℕ, zero, suc, ◌+◌, ◌<◌, ◌≤◌, Bool, cond, ◌&&◌, eqb, ltb, leb, List, [], ◌∷◌, ◌++◌, length, get_or, Ok, Err, Result, sym, refl, ap, ◌∙◌, subst, inl, inr, arith}
 use Rattle.std.proofs.lemmas.List.{append-nil, append_assoc, length-append, take_all}
 use Rattle.std.proofs.lemmas.Bool.{cases_Bool, cases_lt, cond-true, cond-false, and_from, and_left, and_right, ne_eqb, lt-ltb, le-ltb, le-leb, lt-leb}
 use Rattle.kind.specs.Answers.{and_then, refuse_if, refused_as, kept}
 use Rattle.kind.specs.Model.{Model, Laws}
-use Rattle.journal.specs.declared.record.Record.{Record}
 use Rattle.journal.specs.declared.walk.Stretch.{Stretch}
 use Rattle.journal.specs.Appends.{planned}
 use Rattle.journal.specs.Spans.{spanned}
@@ -12,7 +11,7 @@ use Rattle.logs.specs.Theorems.{Logs}
 use Rattle.logs.specs.Writes.{head_of}
 use Rattle.logs.proofs.Logs.{logs_front}
 use Rattle.logs.proofs.Proved.{never_refused_lem, span}
-use Rattle.volume.specs.Calls.{origin, difference, written}
+use Rattle.volume.specs.Calls.{difference, written}
 use Rattle.volume.specs.Memory.{Memory}
 use Rattle.volume.specs.Reverts.{held_state, earlier_state, alike, needed, all_needed, put_back, put_all_back, reverted, count_of}
 use Rattle.volume.specs.Rolls.{acted}

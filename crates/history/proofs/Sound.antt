@@ -1,17 +1,16 @@
 -- A check answers yes exactly on memories that writes leave. Assumes nothing.
-use Rattle.std.proofs.Common.{◌≡◌, ℕ, ◌+◌, ◌<◌, ◌≤◌, Bool, cond, ◌&&◌, ltb, leb, List, [], ◌∷◌, length, Ok, Err, Result, sym, refl, ap, ◌∙◌, subst, inl, inr, arith}
+use Rattle.std.proofs.Common.{◌≡◌, ℕ, ◌+◌, ◌&&◌, ltb, leb, List, [], ◌∷◌, length, Ok, Err, Result, refl, ◌∙◌, subst, arith}
 use Rattle.std.proofs.lemmas.Bool.{cond_both}
 use Rattle.kind.specs.Model.{Model, Laws}
 use Rattle.file.specs.declared.faults.FileFault.{FileFault}
 use Rattle.file.specs.declared.header.Header.{Header}
-use Rattle.volume.specs.Memory.{Memory}
 use Rattle.history.specs.Calls.{Call, format, write, read, span, roll, replay, revert, check, save, load, restored, refilled, fed_file, run_all, fed, fed_all}
 use Rattle.history.specs.Files.{entries_read, header_read}
 use Rattle.history.specs.History.{History, Entry, count, extended, appended}
 use Rattle.history.specs.Promises.{fresh}
-use Rattle.history.specs.Soundness.{asks, LeftByWrites, ChecksExactly}
+use Rattle.history.specs.Soundness.{asks, ChecksExactly}
 use Rattle.history.proofs.Accepts.{accepts}
-use Rattle.history.proofs.Canonical.{Sizes, Canonical, blank_canonical}
+use Rattle.history.proofs.Canonical.{Canonical, blank_canonical}
 use Rattle.history.proofs.Promised.{keeps_all}
 use Rattle.history.proofs.Rebuilt.{left, checked_parts}
 use Rattle.history.proofs.Written.{formats_only}

@@ -1,11 +1,11 @@
 -- What read and span answer on the memory that a history leaves. Assumes nothing.
-use Rattle.std.proofs.Common.{◌≡◌, ℕ, ◌+◌, ◌*◌, ◌^◌, ◌<◌, ◌≤◌, cond, ◌||◌, ltb, leb, ◌⊎◌, List, length, get_or, take, Ok, Err, Result, sym, refl, ap, ◌∙◌, inl, inr, arith}
+use Rattle.std.proofs.Common.{◌≡◌, ℕ, ◌<◌, ◌≤◌, ◌||◌, ltb, leb, List, length, get_or, Ok, Err, Result, sym, ap, ◌∙◌, arith}
 use Rattle.std.proofs.lemmas.Bool.{cond-true, cond-false, or_from, le-leb, lt-leb, le-ltb}
 use Rattle.kind.specs.Answers.{and_then, refuse_if, refused_as}
 use Rattle.kind.specs.Model.{Model, Laws}
 use Rattle.journal.specs.declared.walk.Stretch.{Stretch}
 use Rattle.journal.specs.Spans.{spanned}
-use Rattle.logs.specs.Writes.{Write, head_of}
+use Rattle.logs.specs.Writes.{Write}
 use Rattle.logs.proofs.Algebra.{onward, onward_joins}
 use Rattle.logs.proofs.Counted.{total, depth_all}
 use Rattle.logs.proofs.Proved.{span}
@@ -14,7 +14,7 @@ use Rattle.volume.specs.Calls.{origin, state_read, change_between}
 use Rattle.volume.specs.Memory.{Memory}
 use Rattle.volume.specs.declared.refusal.Refusal.{Refusal}
 use Rattle.volume.specs.declared.refusal.Refusal.TheVariants.{Cell, Moment, Ladder}
-use Rattle.history.specs.History.{History, Entry, count, entries_of, latest, stood}
+use Rattle.history.specs.History.{History, count, entries_of, stood}
 use Rattle.history.specs.Promises.{Spans, Composes}
 use Rattle.history.proofs.Canonical.{Canonical, sound_is}
 use Rattle.history.proofs.Entered.{writes, writes_length, writes_count, onward_acts}

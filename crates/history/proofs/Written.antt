@@ -1,5 +1,5 @@
 -- What format and write make of the memory that a history leaves. Assumes nothing.
-use Rattle.std.proofs.Common.{◌≡◌, ℕ, ◌+◌, ◌<◌, ◌≤◌, cond, eqb, ltb, leb, ◌⊎◌, List, [], ◌∷◌, ◌++◌, length, get_or, take, set, Ok, Err, Result, sym, refl, ap, ◌∙◌, subst, inl, inr, arith}
+use Rattle.std.proofs.Common.{◌≡◌, ℕ, ◌+◌, ◌<◌, ◌≤◌, cond, eqb, leb, List, [], ◌∷◌, ◌++◌, length, get_or, take, set, Ok, Err, Result, sym, ap, ◌∙◌, inl, inr, arith}
 use Rattle.std.proofs.lemmas.List.{get_or-set_same, get_or-set_other, length-set, length_push, take_more_set}
 use Rattle.std.proofs.lemmas.Bool.{cases_eq, cond-true, cond-false, eq-eqb, ne_eqb, le-leb, lt-leb}
 use Rattle.kind.specs.Answers.{and_then, refuse_if, refused_as}
@@ -11,7 +11,6 @@ use Rattle.logs.specs.Writes.{Write, head_of, log_of}
 use Rattle.logs.proofs.Proved.{never_refused_lem, head_moves_lem}
 use Rattle.volume.specs.Calls.{origin, difference, logged, formatted, written, emptied}
 use Rattle.volume.specs.Memory.{Memory, memory}
-use Rattle.volume.specs.Sizes.{sized, sound}
 use Rattle.volume.specs.declared.refusal.Refusal.{Refusal}
 use Rattle.volume.specs.declared.refusal.Refusal.TheVariants.{Cell, Full, Ladder}
 use Rattle.history.specs.History.{History, Entry, count, appended, latest}

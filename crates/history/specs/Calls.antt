@@ -6,7 +6,6 @@ use Rattle.file.specs.declared.faults.FileFault.{FileFault}
 use Rattle.file.specs.declared.header.Header.{Header}
 use Rattle.file.specs.Header.{file_length}
 use Rattle.kind.specs.Model.{Model}
-use Rattle.journal.specs.declared.walk.Stretch.{Stretch}
 use Rattle.volume.specs.declared.refusal.Refusal.{Refusal}
 use Rattle.volume.specs.declared.refusal.Refusal.TheVariants.{Heads, File, Area, Image, Cell, Moment, Full}
 use Rattle.volume.specs.Calls.{formatted, written, state_read, change_between}

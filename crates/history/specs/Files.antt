@@ -1,5 +1,5 @@
 -- The file of a history, and the entries that a file's records make. Assumes nothing.
-use Rattle.std.specs.Prelude.{ℕ, zero, suc, not, List, [], ◌∷◌, ◌++◌, Some, Ok, Err, Result, ◌==◌, nat_le}
+use Rattle.std.specs.Prelude.{ℕ, zero, suc, not, List, [], ◌∷◌, ◌++◌, Some, Ok, Result, ◌==◌, nat_le}
 use Rattle.kind.specs.Answers.{and_then, refuse_if}
 use Rattle.kind.specs.Model.{Model}
 use Rattle.file.specs.declared.faults.FileFault.{FileFault}

@@ -7,7 +7,7 @@ use Rattle.journal.specs.Links.{blank}
 use Rattle.volume.specs.Calls.{change_between}
 use Rattle.volume.specs.Memory.{Memory, memory}
 use Rattle.volume.specs.Replays.{replayed}
-use Rattle.history.specs.Calls.{Call, format, write, revert, run_all}
+use Rattle.history.specs.Calls.{format, write, revert, run_all}
 
 -- so many cells, space for seven records, and nothing known
 abbrev pub bare : ℕ → Memory ℤ ℤ

@@ -9,7 +9,7 @@ use Rattle.journal.specs.Links.{blank, numbered}
 use Rattle.journal.specs.Spans.{spanned}
 use Rattle.logs.specs.Writes.{Write, head_after, head_of, log_of}
 use Rattle.logs.specs.Theorems.{Logs, NeverRefused, HeadMoves, SpansRight, StepsFew, EachRecord}
-use Rattle.logs.proofs.Algebra.{onward, onward_back}
+use Rattle.logs.proofs.Algebra.{onward_back}
 use Rattle.logs.proofs.Counted.{Place, depth, total, depth_all, depth_last, between_is, head_place}
 use Rattle.logs.proofs.Logs.{story, Leaves, records_leave, log_fits, logs_length, logs_front, grows}
 use Rattle.logs.proofs.Spans.{Spanned, span_right}

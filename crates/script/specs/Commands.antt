@@ -1,5 +1,5 @@
 -- The command that a line has: its name, and what its arguments have to be.
-use Rattle.std.specs.Prelude.{◌≡◌, ℕ, cond, List, [], ◌∷◌, Some, None, Ok, Err, codes, Option, Result, ◌≢◌}
+use Rattle.std.specs.Prelude.{cond, List, [], ◌∷◌, Some, None, Ok, Err, codes, Option, Result, ◌≢◌}
 use Rattle.std.specs.Borrow.{Bor}
 use Rattle.kind.specs.Answers.{and_then}
 use Rattle.std.specs.Str.{bytes_eq}

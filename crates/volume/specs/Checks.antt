@@ -1,5 +1,5 @@
 -- Check: whether the memory is what writes after a format leave. Assumes nothing.
-use Rattle.std.specs.Prelude.{ℕ, zero, suc, ◌+◌, ◌-◌, Bool, true, false, not, ◌&&◌, List, length, replicate, Ok, Err, Result, ◌==◌, nat_lt, slice_index, slice_index_or, slice_set}
+use Rattle.std.specs.Prelude.{ℕ, zero, suc, ◌+◌, ◌-◌, Bool, false, not, ◌&&◌, List, length, replicate, Ok, Err, Result, ◌==◌, nat_lt, slice_index, slice_index_or, slice_set}
 use Rattle.kind.specs.Answers.{and_then, each_below, refuse_if, refused_as, kept}
 use Rattle.kind.specs.Model.{Model}
 use Rattle.journal.specs.declared.faults.LadderFault.{LadderFault}

@@ -3,7 +3,6 @@ use Rattle.std.specs.Prelude.{ℕ, zero, suc, ◌+◌, not, List, length, Some, 
 use Rattle.kind.specs.Answers.{and_then, refuse_if, refused_as, kept}
 use Rattle.kind.specs.Model.{Model}
 use Rattle.file.specs.declared.faults.FileFault.TheVariants.{Cell, Next}
-use Rattle.file.specs.declared.header.Handed.{Handed}
 use Rattle.file.specs.declared.header.Header.{Header}
 use Rattle.file.specs.Changes.{change_read}
 use Rattle.file.specs.Header.{header_of}

@@ -1,5 +1,5 @@
 -- Revert: the cells written back to how they stood at a moment. Assumes nothing.
-use Rattle.std.specs.Prelude.{ℕ, zero, suc, ◌+◌, Bool, true, false, cond, length, Ok, Err, Result, nat_lt, slice_index, slice_index_or}
+use Rattle.std.specs.Prelude.{ℕ, zero, suc, ◌+◌, Bool, cond, length, Ok, Err, Result, nat_lt, slice_index, slice_index_or}
 use Rattle.kind.specs.Answers.{and_then, refuse_if, refused_as, kept}
 use Rattle.kind.specs.Model.{Model}
 use Rattle.journal.specs.Appends.{planned}

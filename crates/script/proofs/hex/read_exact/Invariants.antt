@@ -1,6 +1,5 @@
 use Rattle.std.proofs.Common.{◌≡◌, ℕ, ◌+◌, ◌*◌, ◌/◌, ◌%◌, ◌<◌, get_or}
 use Rattle.std.specs.Char.{digit_char}
-use Rattle.script.specs.Hex.{hex_of}
 use Rattle.script.proofs.hex.read_exact.Given as goal
 
 abbrev pub invariant-loop-i : goal.invariant-loop-i

@@ -1,4 +1,4 @@
-use Rattle.std.proofs.Common.{◌≡◌, ℕ, ◌<◌, length, set, ap, ◌∙◌, arith}
+use Rattle.std.proofs.Common.{◌≡◌, ◌<◌, length, set, ap, ◌∙◌, arith}
 use Rattle.volume.proofs.Fills.{filling, filling_more, filling_all}
 use Rattle.volume.proofs.parts.fill_with.Goals as goal
 
