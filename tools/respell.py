@@ -1,6 +1,8 @@
 #!/usr/bin/env python3
 """Spells the repository's own definitions and lemmas as today's libraries do: words in snake case, types in camel case.
 
+Kept as the record of the port (docs/PORT.md): it was run once, on what port.py of rattle-kit-13f had left, and uses a script of that kit.
+
 usage: respell.py            at the top of the repository, once, after port.py: rewrites .antt and .rt files and pages in place
        respell.py --list     prints the table of names and what it found, and writes nothing
 
