@@ -4,6 +4,7 @@ pub mod Checks
 pub mod Loads
 pub mod Memory
 pub mod Numbers
+pub mod Owner
 pub mod Recalls
 pub mod Replays
 pub mod Reverts

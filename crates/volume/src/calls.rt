@@ -10,7 +10,7 @@ use crate::refusal::Refusal;
 use crate::sizes::{check_memory, check_sizes};
 use kind::Kind;
 
-impl<'a, K: Kind> Volume<'a, K> {
+impl<K: Kind> Volume<'_, '_, '_, '_, K> {
     // Sets every cell to the origin, every head and the count to zero.
     pub(crate) fn empty(&mut self)
         ensures after { held self.new ≡ emptied K.Kind.model (held self.old) }

@@ -116,7 +116,7 @@ fn is_changed<K: Kind>(
     }
 }
 
-impl<'a, K: Kind> Volume<'a, K> {
+impl<K: Kind> Volume<'_, '_, '_, '_, K> {
     // Whether the state of a cell is right.
     fn is_right_cell(&self, i: usize) -> bool
         requires there { i < length self.now.cells.now }

@@ -4,6 +4,7 @@
 mod calls;
 mod checks;
 mod loads;
+pub mod owner;
 mod parts;
 pub mod recalls;
 pub mod refusal;
@@ -21,22 +22,22 @@ use kind::Kind;
 
 // The memory may hold anything: each call tests what it needs.
 #[derive(Drop)]
-pub struct Volume<'a, K: Kind> {
-    cells: &'a mut [K::State],
+pub struct Volume<'c, 'h, 'r, 'n, K: Kind> {
+    cells: &'c mut [K::State],
     // the number of each cell's newest record, or zero
-    heads: &'a mut [u32],
-    records: &'a mut [Record<K::Change>],
+    heads: &'h mut [u32],
+    records: &'r mut [Record<K::Change>],
     // how many records are written
-    count: &'a mut u32,
+    count: &'n mut u32,
 }
 
-impl<'a, K: Kind> Volume<'a, K> {
+impl<'c, 'h, 'r, 'n, K: Kind> Volume<'c, 'h, 'r, 'n, K> {
     pub fn over(
-        cells: &'a mut [K::State],
-        heads: &'a mut [u32],
-        records: &'a mut [Record<K::Change>],
-        count: &'a mut u32,
-    ) -> Volume<'a, K>
+        cells: &'c mut [K::State],
+        heads: &'h mut [u32],
+        records: &'r mut [Record<K::Change>],
+        count: &'n mut u32,
+    ) -> Volume<'c, 'h, 'r, 'n, K>
         ensures holds { held result ≡ memory cells.old heads.old records.old count.old }
         ensures cells_same { result.cells.ghost_name ≡ cells.entry.ghost_name }
         ensures heads_same { result.heads.ghost_name ≡ heads.entry.ghost_name }

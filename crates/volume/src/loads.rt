@@ -18,7 +18,7 @@ use file::header::{Handed, Header, load_header};
 use file::records::{SavedRecord, record_at};
 use kind::Kind;
 
-impl<'a, K: Kind> Volume<'a, K> {
+impl<K: Kind> Volume<'_, '_, '_, '_, K> {
     // Acts on a cell with a change and logs it.
     fn enter(&mut self, cell: u16, change: &K::Change) -> Result<(), Refusal>
         requires there { cell < length self.old.cells.now }

@@ -63,7 +63,7 @@ fn play_records<K: Kind>(image: &mut [K::State], records: &[Record<K::Change>], 
     }
 }
 
-impl<'a, K: Kind> Volume<'a, K> {
+impl<K: Kind> Volume<'_, '_, '_, '_, K> {
     fn remake_image(&self, image: &mut [K::State], moment: u32) -> Result<(), Refusal>
         ensures answer { result ≡ told tt (remade K.Kind.model (held self.now) image.old moment) }
         ensures put { image.new ≡ kept image.old (remade K.Kind.model (held self.now) image.old moment) }

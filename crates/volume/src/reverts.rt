@@ -20,7 +20,7 @@ pub(crate) fn state_at<K: Kind>(cells: &[K::State], i: usize) -> K::State
     cells[i]
 }
 
-impl<'a, K: Kind> Volume<'a, K> {
+impl<K: Kind> Volume<'_, '_, '_, '_, K> {
     // The state of a cell as its span from moment `from`, the count at the call, to moment `to` leaves it.
     fn earlier(&self, from: u32, to: u32, i: usize) -> Result<K::State, Refusal>
         requires there { i < length self.now.cells.now }

@@ -13,7 +13,7 @@ use journal::faults::LadderFault;
 use journal::walk::{Stretch, span};
 use kind::Kind;
 
-impl<'a, K: Kind> Volume<'a, K> {
+impl<K: Kind> Volume<'_, '_, '_, '_, K> {
     // The change of cell `i` from moment `a` to moment `b`.
     fn cell_span(&self, i: usize, a: u32, b: u32) -> Result<Stretch<K::Change>, LadderFault>
         requires { (i < length self.now.heads.now) × (i < 2 ^ 16) }

@@ -37,7 +37,7 @@ fn put_file<K: Kind>(cells: u16, records: &[Record<K::Change>], count: u32, area
     }
 }
 
-impl<'a, K: Kind> Volume<'a, K> {
+impl<K: Kind> Volume<'_, '_, '_, '_, K> {
     fn lay_down(&self, area: &mut [u8]) -> Result<usize, Refusal>
         ensures answer { result ≡ length_of (laid_down K.Kind.model (held self.now) (length area.old)) }
         ensures after { area.new ≡ area_after area.old (laid_down K.Kind.model (held self.now) (length area.old)) }
