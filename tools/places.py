@@ -110,7 +110,12 @@ count("5", "requires", grep(r"^\s*requires "))
 count("5", "functions of five or more parameters", [f"{at}: {name} {len(names)}" for at, name, names, head, body in FUNCTIONS if len(names) >= 5])
 
 # 6
-count("6", "fields that hold a slice or a vector", grep(r"^\s+(pub )?\w+: (&('\w+ )?(mut )?\[|Vec<)"))
+fields, within = [], False
+for at, line in SOURCE:
+    within = line.rstrip().endswith("{") if re.match(r"(pub(\(crate\))? )?struct ", line) else within and line != "}"
+    if within and re.search(r": (&('\w+ )?(mut )?\[|Vec<)", line):
+        fields.append(f"{at}: {line.strip()}")
+count("6", "fields that hold a slice or a vector", fields)
 count("6", "answers that are made as text at once", grep(r"-> Result<String, Fault>"))
 
 # 7
