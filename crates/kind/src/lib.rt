@@ -15,7 +15,7 @@ ghost use Rattle.kind.specs.Model.{Model, Laws};
 ghost use Rattle.std.specs.Result.{result_map_both};
 
 // Why a kind turns bytes down.
-#[derive(Clone, Copy)]
+#[derive(Clone, Copy, Debug, PartialEq, Eq)]
 pub enum KindFault {
     NotAChange,
 }
