@@ -76,12 +76,9 @@ impl Kind for BankMap {
         put(&Arrangement::taken(f).pages(), out)
     }
 
+    #[tactic(auto, using(crate::proofs::ArrangementLoops::other_length))]
     fn read_change(bytes: &[u8]) -> Result<[u8; 16], KindFault> {
-        if bytes.len() != 16 {
-            return Err(KindFault::NotAChange);
-        }
-        let mut pages = [0; 16];
-        pages.copy_from_slice(bytes);
+        let pages = <[u8; 16]>::try_from(bytes).map_err(|_| KindFault::NotAChange)?;
         if is_arrangement(&pages) {
             Ok(pages)
         } else {

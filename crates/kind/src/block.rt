@@ -83,11 +83,6 @@ impl Kind for Block {
     }
 
     fn read_change(bytes: &[u8]) -> Result<[u8; 128], KindFault> {
-        if bytes.len() != 128 {
-            return Err(KindFault::NotAChange);
-        }
-        let mut out = [0; 128];
-        out.copy_from_slice(bytes);
-        Ok(out)
+        <[u8; 128]>::try_from(bytes).map_err(|_| KindFault::NotAChange)
     }
 }

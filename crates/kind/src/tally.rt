@@ -61,17 +61,17 @@ impl Kind for Tally {
     }
 
     fn write_state(s: &i32, out: &mut [u8]) -> bool {
-        put(&s.cast_unsigned().to_le_bytes(), out)
+        put(&s.to_le_bytes(), out)
     }
 
     fn write_change(f: &i32, out: &mut [u8]) -> bool {
-        put(&f.cast_unsigned().to_le_bytes(), out)
+        put(&f.to_le_bytes(), out)
     }
 
     fn read_change(bytes: &[u8]) -> Result<i32, KindFault> {
         let [a, b, c, d] = bytes else {
             return Err(KindFault::NotAChange);
         };
-        Ok(u32::from_le_bytes([*a, *b, *c, *d]).cast_signed())
+        Ok(i32::from_le_bytes([*a, *b, *c, *d]))
     }
 }
