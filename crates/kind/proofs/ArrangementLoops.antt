@@ -3,7 +3,7 @@ use Rattle.std.proofs.Common.{◌≡◌, ℕ, suc, ◌+◌, ◌<◌, ◌≤◌, 
 use Rattle.std.proofs.lemmas.List.{ext_get_or, length-map, get_or-set_same, get_or-set_other, take_all}
 use Rattle.std.proofs.lemmas.Bool.{cases_eq, eq-eqb, ne_eqb}
 use Rattle.kind.specs.Arrangements.{arrangement?, place, count, through, inverted}
-use Rattle.kind.specs.Laws.Arrangements.{bit, bit_le, arr_low, arr_place, arr_apart, arr_once, arrangement_from_counts, count_more, count_front, get_or_through, get_or_inverted, length_inverted}
+use Rattle.kind.specs.Laws.Arrangements.{bit, bit_le, arr_length, arr_low, arr_place, arr_apart, arr_once, arrangement_from_counts, count_more, count_front, get_or_through, get_or_inverted, length_inverted}
 
 pub through_all : (f g out : List ℕ) → length f ≡ 16 → length out ≡ 16 → ((k : ℕ) → k < 16 → get_or out k 0 ≡ get_or g (get_or f k 0) 0) → out ≡ through f g
 through_all f g out n m h =
@@ -30,6 +30,9 @@ module _ (f : List ℕ) (ok : arrangement? f ≡ true) where
 pub refuted : (b : Bool) → (b ≡ true → ⊥) → false ≡ b
 refuted true h = absurd (h refl)
 refuted false h = refl
+
+pub other_length : (xs : List ℕ) → (length xs ≡ 16 → ⊥) → arrangement? xs ≡ false
+other_length xs h = sym (refuted (arrangement? xs) (λ ok. h (arr_length xs ok)))
 
 -- the loop that finds out whether a list is an arrangement: `seen` says which numbers have been met
 module _ (xs : List ℕ) (n : length xs ≡ 16) (i : ℕ) (p : i < 16) where

@@ -1,3 +1,4 @@
 pub mod ArrangementLoops
+pub mod Made
 pub mod Meant
 pub mod Tried

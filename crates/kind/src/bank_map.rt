@@ -1,12 +1,14 @@
 // The bank map: an arrangement of 16 page numbers, which changes by arrangements. It lies in memory as 16 plain bytes, from
 // which the arrangement is made at each use; bytes that are none are taken for the one in order.
+ghost use Rattle.std.specs.Prelude.{refl};
 ghost use Rattle.kind.specs.BankMaps.{bank_map};
 ghost use Rattle.kind.specs.Laws.BankMaps.{bank_map_laws};
 
 use crate::arrangement::{Arrangement, is_arrangement};
-use crate::forms::{put, same_bytes};
+use crate::forms::put;
 use crate::{Kind, KindFault};
 
+#[derive(Clone, Copy, Debug, PartialEq, Eq)]
 pub struct BankMap;
 
 impl Kind for BankMap {
@@ -18,11 +20,11 @@ impl Kind for BankMap {
 
     ghost laws = { bank_map_laws };
 
-    const LETTER: char = 'M';
+    ghost LETTER = { 77 };
 
-    fn file_letter() -> char {
-        Self::LETTER
-    }
+    ghost letter_is = { refl };
+
+    const LETTER: char = 'M';
 
     fn width() -> usize {
         16
@@ -59,17 +61,11 @@ impl Kind for BankMap {
     }
 
     fn same_state(s: &[u8; 16], t: &[u8; 16]) -> bool {
-        same_bytes(
-            &Arrangement::taken(s).pages(),
-            &Arrangement::taken(t).pages(),
-        )
+        Arrangement::taken(s) == Arrangement::taken(t)
     }
 
     fn same_change(f: &[u8; 16], g: &[u8; 16]) -> bool {
-        same_bytes(
-            &Arrangement::taken(f).pages(),
-            &Arrangement::taken(g).pages(),
-        )
+        Arrangement::taken(f) == Arrangement::taken(g)
     }
 
     fn write_state(s: &[u8; 16], out: &mut [u8]) -> bool {
@@ -80,12 +76,9 @@ impl Kind for BankMap {
         put(&Arrangement::taken(f).pages(), out)
     }
 
+    #[tactic(auto, using(crate::proofs::ArrangementLoops::other_length))]
     fn read_change(bytes: &[u8]) -> Result<[u8; 16], KindFault> {
-        if bytes.len() != 16 {
-            return Err(KindFault::NotAChange);
-        }
-        let mut pages = [0; 16];
-        pages.copy_from_slice(bytes);
+        let pages = <[u8; 16]>::try_from(bytes).map_err(|_| KindFault::NotAChange)?;
         if is_arrangement(&pages) {
             Ok(pages)
         } else {

@@ -1,24 +1,24 @@
 // The block: 128 bytes, which change by XOR of equal places.
-ghost use Rattle.std.specs.Prelude.{◌≡◌};
-ghost use Rattle.kind.specs.Blocks.{block};
-ghost use Rattle.kind.specs.Xors.{xors};
+#![tactic(auto, using(crate::specs::Laws::Xors::block_from_get_or))]
+
+ghost use Rattle.std.specs.Prelude.{◌≡◌, refl};
+ghost use Rattle.kind.specs.Blocks.{block, zeros};
 ghost use Rattle.kind.specs.Laws.Blocks.{block_laws};
+ghost use Rattle.kind.specs.Passing.{taken};
+ghost use Rattle.kind.specs.Xors.{xors};
 
-use crate::forms::{put, same_bytes};
-use crate::known::{block_known, bytes_known};
+use crate::forms::put;
 use crate::{Kind, KindFault};
+use std::array;
 
+#[derive(Clone, Copy, Debug, PartialEq, Eq)]
 pub struct Block;
 
 // The xor of equal places.
 fn xor(f: &[u8; 128], g: &[u8; 128]) -> [u8; 128]
-    ensures { result ≡ xors f.now g.now }
+    ensures { result ≡ xors (taken zeros f.now).list (taken zeros g.now).list }
 {
-    let mut out = [0; 128];
-    for i in 0..128 {
-        out[i] = f[i] ^ g[i];
-    }
-    out
+    array::from_fn(|i| f[i] ^ g[i])
 }
 
 impl Kind for Block {
@@ -30,11 +30,11 @@ impl Kind for Block {
 
     ghost laws = { block_laws };
 
-    const LETTER: char = 'B';
+    ghost LETTER = { 66 };
 
-    fn file_letter() -> char {
-        Self::LETTER
-    }
+    ghost letter_is = { refl };
+
+    const LETTER: char = 'B';
 
     fn width() -> usize {
         128
@@ -49,57 +49,40 @@ impl Kind for Block {
     }
 
     fn then(f: &[u8; 128], g: &[u8; 128]) -> [u8; 128] {
-        block_known(f);
-        block_known(g);
         xor(f, g)
     }
 
+    // `_bytes` is for the proof alone: an array behind a reference is known for bytes only once it is lent as a slice.
     fn inverse(f: &[u8; 128]) -> [u8; 128] {
-        block_known(f);
+        let _bytes = f.as_slice();
         *f
     }
 
     fn act(f: &[u8; 128], s: &[u8; 128]) -> [u8; 128] {
-        block_known(f);
-        block_known(s);
         xor(s, f)
     }
 
     fn difference(s: &[u8; 128], t: &[u8; 128]) -> [u8; 128] {
-        block_known(s);
-        block_known(t);
         xor(s, t)
     }
 
     fn same_state(s: &[u8; 128], t: &[u8; 128]) -> bool {
-        block_known(s);
-        block_known(t);
-        same_bytes(s, t)
+        s[..] == t[..]
     }
 
     fn same_change(f: &[u8; 128], g: &[u8; 128]) -> bool {
-        block_known(f);
-        block_known(g);
-        same_bytes(f, g)
+        f[..] == g[..]
     }
 
     fn write_state(s: &[u8; 128], out: &mut [u8]) -> bool {
-        block_known(s);
         put(s, out)
     }
 
     fn write_change(f: &[u8; 128], out: &mut [u8]) -> bool {
-        block_known(f);
         put(f, out)
     }
 
     fn read_change(bytes: &[u8]) -> Result<[u8; 128], KindFault> {
-        if bytes.len() != 128 {
-            return Err(KindFault::NotAChange);
-        }
-        bytes_known(bytes);
-        let mut out = [0; 128];
-        out.copy_from_slice(bytes);
-        Ok(out)
+        <[u8; 128]>::try_from(bytes).map_err(|_| KindFault::NotAChange)
     }
 }

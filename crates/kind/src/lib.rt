@@ -4,19 +4,21 @@
 pub mod arrangement;
 pub mod bank_map;
 pub mod block;
-mod forms;
-mod known;
+pub mod forms;
 pub mod statements;
 pub mod tally;
 
-ghost use Rattle.std.specs.Prelude.{◌≡◌, ◌++◌, length, drop, if◌then◌else◌, nat_le};
+ghost use Rattle.std.specs.Prelude.{◌≡◌, ℕ, ◌++◌, length, drop, if◌then◌else◌, nat_le};
 ghost use Rattle.kind.specs.Calls.{first_state, no_change, acted, composed, reversed, between};
 ghost use Rattle.kind.specs.Model.{Model, Laws};
 ghost use Rattle.std.specs.Result.{result_map_both};
 
+use thiserror::Error;
+
 // Why a kind turns bytes down.
-#[derive(Clone, Copy, Debug, PartialEq, Eq)]
+#[derive(Clone, Copy, Debug, PartialEq, Eq, Error)]
 pub enum KindFault {
+    #[error("no change of the kind")]
     NotAChange,
 }
 
@@ -33,12 +35,10 @@ pub trait Kind {
 
     ghost laws: { Laws model };
 
-    // Stands for the kind in a file.
-    const LETTER: char;
+    // Stands for the kind in a file; `letter_is` ties it to the model.
+    ghost LETTER: { ℕ };
 
-    // `LETTER`, with a contract, since no clause can name the constant.
-    fn file_letter() -> char
-        ensures { result ≡ model.letter };
+    const LETTER: char;
 
     // How many bytes the form of a state or a change has.
     fn width() -> usize
@@ -87,4 +87,6 @@ pub trait Kind {
     // The change whose form is `bytes`, all of them.
     fn read_change(bytes: &[u8]) -> Result<Self::Change, KindFault>
         ensures { result ≡ result_map_both model.plain_change (λ e. e) (model.read_form bytes.now) };
+
+    ghost letter_is: { LETTER ≡ model.letter };
 }

@@ -17,16 +17,19 @@ pub fn forms_stand<K: Kind>()
 {}
 
 // Blocks change by XOR of equal places.
+#[tactic(auto, using(crate::proofs::Meant::blocks_xor_lem))]
 pub fn blocks_xor()
     ensures { BlocksXor }
 {}
 
 // Tallies change by addition modulo 2 ^ 32.
+#[tactic(auto, using(crate::proofs::Meant::tallies_add_lem))]
 pub fn tallies_add()
     ensures { TalliesAdd }
 {}
 
 // Bank maps change by composition of permutations, and an arrangement is a permutation.
+#[tactic(auto, using(crate::proofs::Meant::maps_compose_lem, crate::proofs::Meant::arrangements_permute, crate::proofs::Meant::order_counts))]
 pub fn maps_compose()
     ensures composing { MapsCompose }
     ensures arrangements { ArrangementsPermute }

@@ -1,10 +1,12 @@
 // The tally: a signed number of 32 bits, which changes by sums modulo 2 ^ 32.
+ghost use Rattle.std.specs.Prelude.{refl};
 ghost use Rattle.kind.specs.Tallies.{tally};
 ghost use Rattle.kind.specs.Laws.Tallies.{tally_laws};
 
 use crate::forms::put;
 use crate::{Kind, KindFault};
 
+#[derive(Clone, Copy, Debug, PartialEq, Eq)]
 pub struct Tally;
 
 impl Kind for Tally {
@@ -16,11 +18,11 @@ impl Kind for Tally {
 
     ghost laws = { tally_laws };
 
-    const LETTER: char = 'T';
+    ghost LETTER = { 84 };
 
-    fn file_letter() -> char {
-        Self::LETTER
-    }
+    ghost letter_is = { refl };
+
+    const LETTER: char = 'T';
 
     fn width() -> usize {
         4
@@ -59,17 +61,17 @@ impl Kind for Tally {
     }
 
     fn write_state(s: &i32, out: &mut [u8]) -> bool {
-        put(&s.cast_unsigned().to_le_bytes(), out)
+        put(&s.to_le_bytes(), out)
     }
 
     fn write_change(f: &i32, out: &mut [u8]) -> bool {
-        put(&f.cast_unsigned().to_le_bytes(), out)
+        put(&f.to_le_bytes(), out)
     }
 
     fn read_change(bytes: &[u8]) -> Result<i32, KindFault> {
         let [a, b, c, d] = bytes else {
             return Err(KindFault::NotAChange);
         };
-        Ok(u32::from_le_bytes([*a, *b, *c, *d]).cast_signed())
+        Ok(i32::from_le_bytes([*a, *b, *c, *d]))
     }
 }

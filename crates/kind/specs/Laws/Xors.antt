@@ -6,6 +6,7 @@ use Rattle.std.proofs.lemmas.Nat.{xor_lt}
 use Rattle.std.proofs.lemmas.Bool.{eqb-true, eq-eqb, and_parts, and_from, lt-ltb, ltb-true}
 use Rattle.kind.specs.Bytes.{bytes?}
 use Rattle.kind.specs.Xors.{xors, block?}
+use Rattle.kind.specs.Laws.Bytes.{bytes_from_get_or}
 
 pub length_xors : (xs ys : List ℕ) → length xs ≡ length ys → length (xors xs ys) ≡ length xs
 length_xors [] ys h = refl
@@ -61,3 +62,7 @@ block_passes bs h t = and_from (length bs == 128) (bytes? bs) (eq-eqb (length bs
 
 pub xors_passes : (x y : List ℕ) → block? x ≡ true → block? y ≡ true → block? (xors x y) ≡ true
 xors_passes x y p q = block_passes (xors x y) (length_xors x y (block_length x p ∙ sym (block_length y q)) ∙ block_length x p) (bytes_xors x y (block_bytes x p) (block_bytes y q))
+
+-- 128 numbers, each of them a byte
+pub block_from_get_or : (bs : List ℕ) → length bs ≡ 128 → ((i : ℕ) → slice_index bs i < 256) → block? bs ≡ true
+block_from_get_or bs h t = block_passes bs h (bytes_from_get_or bs (λ i _. t i))
