@@ -85,7 +85,7 @@ fn header_for<K: Kind>(file: &[u8], handed: Option<Handed>) -> Result<Header, Fi
     if file.len() < HEADER {
         return Err(FileFault::Short);
     }
-    if file[0] as char != K::file_letter() {
+    if file[0] as char != K::LETTER {
         return Err(FileFault::Letter);
     }
     after_letter(file, K::width(), handed)

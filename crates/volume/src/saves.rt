@@ -31,7 +31,7 @@ fn put_file<K: Kind>(cells: u16, records: &[Record<K::Change>], count: u32, area
     requires room { file_length K.Kind.model.width count ≤ length area.old }
     ensures { area.new ≡ written K.Kind.model cells count (lines_of K.Kind.model records.now count) area.old }
 {
-    let _ = write_header(K::file_letter(), cells, count, area);
+    let _ = write_header(K::LETTER, cells, count, area);
     for i in 0..count {
         put_record::<K>(&records[place_of(i as usize + 1)], i + 1, area);
     }
