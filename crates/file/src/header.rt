@@ -1,9 +1,9 @@
 // The header of a file.
 ghost use Rattle.std.specs.Prelude.{◌≡◌, ◌+◌, ◌*◌, ◌≤◌, length, IfOk, Some, None};
-ghost use Rattle.file.specs.Header.{other_cells, past_room, after_letter, header_of, any_header, width_at, HeadersAgree, Fits};
+ghost use Rattle.file.specs.Header.{after_letter, header_of, any_header, width_at, HeadersAgree, Fits};
 
 use crate::faults::FileFault;
-use crate::letters::kind_of;
+use crate::letters::BoardKind;
 use crate::numbers::{u16_at, u32_at};
 use kind::Kind;
 
@@ -16,7 +16,7 @@ pub const MOST_CELLS: u16 = 4096;
 pub const MOST_RECORDS: u32 = 65535;
 
 // What a file's first eight bytes say.
-#[derive(Clone, Copy)]
+#[derive(Clone, Copy, Debug, PartialEq, Eq)]
 pub struct Header {
     pub letter: char,
     pub cells: u16,
@@ -24,30 +24,10 @@ pub struct Header {
 }
 
 // The memory that a load is handed: so many cells, and room for so many records.
-#[derive(Clone, Copy)]
+#[derive(Clone, Copy, Debug, PartialEq, Eq)]
 pub struct Handed {
     pub cells: usize,
     pub room: usize,
-}
-
-// Whether a load is handed another number of cells than this.
-fn other_cells(handed: Option<Handed>, cells: u16) -> bool
-    ensures { result ≡ other_cells handed cells }
-{
-    match handed {
-        Some(h) => h.cells != cells as usize,
-        None => false,
-    }
-}
-
-// Whether a load is handed too little room for so many records.
-fn past_room(handed: Option<Handed>, count: u32) -> bool
-    ensures { result ≡ past_room handed count }
-{
-    match handed {
-        Some(h) => h.room < count as usize,
-        None => false,
-    }
 }
 
 // Refusals 7 to 10, or the header.
@@ -60,11 +40,11 @@ fn after_letter(file: &[u8], width: usize, handed: Option<Handed>) -> Result<Hea
         return Err(FileFault::Version);
     }
     let cells = u16_at(file, 2);
-    if cells == 0 || cells > MOST_CELLS || other_cells(handed, cells) {
+    if cells == 0 || cells > MOST_CELLS || handed.is_some_and(|h| h.cells != cells as usize) {
         return Err(FileFault::Cells);
     }
     let count = u32_at(file, 4);
-    if count > MOST_RECORDS || past_room(handed, count) {
+    if count > MOST_RECORDS || handed.is_some_and(|h| h.room < count as usize) {
         return Err(FileFault::Count);
     }
     if file.len() != HEADER + count as usize * (6 + width) {
@@ -115,10 +95,8 @@ pub fn any_header(file: &[u8]) -> Result<Header, FileFault>
     if file.len() < HEADER {
         return Err(FileFault::Short);
     }
-    match kind_of(file[0] as char) {
-        Some(kind) => after_letter(file, kind.width(), None),
-        None => Err(FileFault::Letter),
-    }
+    let kind = BoardKind::try_from(file[0] as char)?;
+    after_letter(file, kind.width(), None)
 }
 
 // A file is read by its letter as it is by that letter's kind.

@@ -8,7 +8,7 @@ use crate::letters::width_under;
 use crate::records::{SavedRecord, saved_record};
 
 // What comes from a file in turn.
-#[derive(Clone, Copy)]
+#[derive(Clone, Copy, Debug, PartialEq, Eq)]
 pub enum Item<'a> {
     Header(Header),
     Record(SavedRecord<'a>),

@@ -16,7 +16,7 @@ pub const RECORD: usize = 6;
 pub const WIDEST: usize = 256;
 
 // A record as it lies in a file; `change` is the file's own stretch.
-#[derive(Clone, Copy)]
+#[derive(Clone, Copy, Debug, PartialEq, Eq)]
 pub struct SavedRecord<'a> {
     pub next: u32,
     pub cell: u16,
