@@ -1,7 +1,7 @@
 // The kinds on board, by the letter that opens a file.
 ghost use Rattle.std.specs.Prelude.{◌≡◌, ok_or};
 ghost use Rattle.file.specs.declared.faults.FileFault.TheVariants.{Letter};
-ghost use Rattle.file.specs.Letters.{kind_of, width_of, width_under, LettersKnown};
+ghost use Rattle.file.specs.Letters.{kind_of, width_of, LettersKnown};
 
 use crate::faults::FileFault;
 use kind::Kind;
@@ -43,13 +43,6 @@ impl BoardKind {
             BoardKind::BankMap => BankMap::width(),
         }
     }
-}
-
-// How many bytes a change has under this letter, or 0 where no kind has it.
-pub(crate) fn width_under(letter: char) -> usize
-    ensures { result ≡ width_under letter }
-{
-    BoardKind::try_from(letter).map_or(0, |kind| kind.width())
 }
 
 // A letter is known just where it is that of a kind on board.
