@@ -6,7 +6,7 @@ ghost use Rattle.bus.specs.Calls.{any_recalled, code};
 
 use file::faults::FileFault;
 use file::header::HEADER;
-use file::letters::{BoardKind, kind_of};
+use file::letters::BoardKind;
 use kind::bank_map::BankMap;
 use kind::block::Block;
 use kind::tally::Tally;
@@ -21,11 +21,10 @@ fn recall_any(file: &[u8], cell: u32, moment: u32, out: &mut [u8]) -> Result<(),
     if file.len() < HEADER {
         return Err(Refusal::File(FileFault::Short));
     }
-    match kind_of(file[0] as char) {
-        Some(BoardKind::Block) => recall::<Block>(file, cell, moment, out),
-        Some(BoardKind::Tally) => recall::<Tally>(file, cell, moment, out),
-        Some(BoardKind::BankMap) => recall::<BankMap>(file, cell, moment, out),
-        None => Err(Refusal::File(FileFault::Letter)),
+    match BoardKind::try_from(file[0] as char)? {
+        BoardKind::Block => recall::<Block>(file, cell, moment, out),
+        BoardKind::Tally => recall::<Tally>(file, cell, moment, out),
+        BoardKind::BankMap => recall::<BankMap>(file, cell, moment, out),
     }
 }
 

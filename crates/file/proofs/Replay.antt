@@ -25,9 +25,9 @@ module _ {PS PC : Type 0} (K : Model PS PC) (f : List ℕ) (cell : ℕ) where
   refused_on e i (suc k) p = rw suc-add (ap (λ r. and_then r (done (said (k + i)))) (refused_on e i k p))
 
   -- as the loop has it: the record's number is i + 1
-  pub said_is : (i cells last w : ℕ) (p : Parts) (r : Result (Option K.Change) FileFault) → cells ≡ cells_at f → last ≡ last_of K f cell i → w ≡ K.width → p ≡ parts_of (record_bytes w f (i + 1)) → r ≡ change_for K cells cell (i + 1) last p → r ≡ said i
-  said_is i cells last w p r ec el ew ep q =
-      q ∙ ap (λ c. change_for K c cell (i + 1) last p) ec ∙ ap (λ l. change_for K (cells_at f) cell (i + 1) l p) el
+  pub said_is : (i n cells last w : ℕ) (p : Parts) (r : Result (Option K.Change) FileFault) → cells ≡ cells_at f → last ≡ last_of K f cell i → w ≡ K.width → n ≡ i + 1 → p ≡ parts_of (record_bytes w f (i + 1)) → r ≡ change_for K cells cell n last p → r ≡ said i
+  said_is i n cells last w p r ec el ew en ep q =
+      q ∙ ap (λ m. change_for K cells cell m last p) en ∙ ap (λ c. change_for K c cell (i + 1) last p) ec ∙ ap (λ l. change_for K (cells_at f) cell (i + 1) l p) el
       ∙ ap (change_for K (cells_at f) cell (i + 1) (last_of K f cell i)) (ep ∙ ap (λ w. parts_of (record_bytes w f (i + 1))) ew)
       ∙ ap (λ m. change_for K (cells_at f) cell m (last_of K f cell i) (saved K f m)) (add-one i)
 

@@ -1,5 +1,5 @@
 -- One call of the item reader after another. Assumes nothing.
-use Rattle.std.proofs.Common.{◌≡◌, ℕ, zero, suc, ◌+◌, ◌<◌, true, false, List, Ok, Err, Result, sym, refl, ap, ◌∙◌, add-one, arith}
+use Rattle.std.proofs.Common.{◌≡◌, ℕ, zero, suc, ◌+◌, ◌<◌, true, false, List, Ok, Err, Result, refl, ap, ◌∙◌, add-one, arith}
 use Rattle.file.specs.declared.faults.FileFault.{FileFault}
 use Rattle.file.specs.Items.{Shown, header, entry, end, item, after, final, given_after, answer, Again, InTurn}
 
@@ -24,10 +24,3 @@ given_all f (suc n) h = after_more (answer f n) (given_after f n) (h n (omega ar
 
 pub in_turn : InTurn
 in_turn f n h = ap (item f) (given_all f n h)
-
--- a call, as the loop has it
-pub given_more : (f h : List ℕ) (i n m : ℕ) (s : Result Shown FileFault) → h ≡ f → n ≡ given_after f i → s ≡ item h n → m ≡ after s n → m ≡ given_after f (i + 1)
-given_more f h i n m s eh en es em = em ∙ ap (λ r. after r n) es ∙ ap (λ h. after (item h n) n) eh ∙ ap (λ n. after (item f n) n) en ∙ ap (given_after f) (sym (add-one i))
-
-pub answer_is : (f h : List ℕ) (n m : ℕ) (s : Result Shown FileFault) → h ≡ f → m ≡ given_after f n → s ≡ item h m → s ≡ answer f n
-answer_is f h n m s eh em es = es ∙ ap (λ h. item h m) eh ∙ ap (item f) em

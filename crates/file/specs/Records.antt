@@ -1,5 +1,5 @@
 -- The records of a file: where each lies, and its parts. Assumes nothing.
-use Rattle.std.specs.Prelude.{◌≡◌, ℕ, ◌+◌, ◌-◌, ◌*◌, ◌≤◌, ◌||◌, List, length, take, drop, Ok, Result, ◌==◌, nat_lt}
+use Rattle.std.specs.Prelude.{◌≡◌, ℕ, zero, suc, ◌+◌, ◌-◌, ◌*◌, ◌≤◌, ◌||◌, List, [], ◌∷◌, length, take, drop, Ok, Result, ◌==◌, nat_lt}
 use Rattle.std.specs.Borrow.{Bor}
 use Rattle.kind.specs.Answers.{refuse_if}
 use Rattle.kind.specs.Bytes.{le16, le32}
@@ -40,6 +40,11 @@ parts_seen r = record { next = r.next; cell = r.cell; change = r.change.now }
 -- record n of a file that is long enough for it
 abbrev pub record_at : ℕ → List ℕ → ℕ → Result Parts FileFault
 record_at width f n = refuse_if (nat_lt 256 width || (n == 0 || nat_lt (length f) (file_length width n))) Length (Ok (parts_of (record_bytes width f n)))
+
+-- records n + 1 to n + m, each with its number
+abbrev pub numbered : ℕ → List ℕ → ℕ → ℕ → List (ℕ × Parts)
+numbered width f n zero = []
+numbered width f n (suc m) = (n + 1, parts_of (record_bytes width f (n + 1))) ∷ numbered width f (n + 1) m
 
 -- part points into what whole points to, so many bytes from its start
 pub record Lies (whole : Bor (List ℕ)) (at : ℕ) (part : Bor (List ℕ)) : Type 0 where

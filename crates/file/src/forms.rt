@@ -36,11 +36,10 @@ pub fn write_header(letter: char, cells: u16, count: u32, out: &mut [u8]) -> boo
     ensures done { result ≡ nat_lt letter 256 && nat_le 8 (length out.old) }
     ensures area { out.new ≡ (if result then header_form letter cells count ++ drop 8 out.old else out.old) }
 {
-    let code = letter as u32;
-    if code >= 256 {
+    let Ok(code) = u8::try_from(letter) else {
         return false;
-    }
-    put(&header_bytes(code as u8, cells, count), out)
+    };
+    put(&header_bytes(code, cells, count), out)
 }
 
 // The six bytes of a record before its change.
@@ -52,14 +51,6 @@ fn record_head(next: u32, cell: u16) -> [u8; 6]
     [n0, n1, n2, n3, c0, c1]
 }
 
-// Writes the change's form to `out` from byte 6 on.
-fn put_change<K: Kind>(change: &K::Change, out: &mut [u8])
-    requires { 6 + K.Kind.model.width ≤ length out.old }
-    ensures { out.new ≡ take 6 out.old ++ (K.Kind.model.change_form (K.Kind.model.change change.now) ++ drop (6 + K.Kind.model.width) out.old) }
-{
-    let _ = K::write_change(change, &mut out[RECORD..]);
-}
-
 // Writes a record to the front of `out`. False, and nothing written, where `out` is shorter than that.
 pub fn write_record<K: Kind>(next: u32, cell: u16, change: &K::Change, out: &mut [u8]) -> bool
     ensures done { result ≡ nat_le (6 + K.Kind.model.width) (length out.old) }
@@ -69,23 +60,8 @@ pub fn write_record<K: Kind>(next: u32, cell: u16, change: &K::Change, out: &mut
         return false;
     }
     let _ = put(&record_head(next, cell), out);
-    put_change::<K>(change, out);
+    let _ = K::write_change(change, &mut out[RECORD..]);
     true
-}
-
-// Writes a record to `out` from byte `start` on. False, and nothing written, where `out` ends before it does.
-fn write_from<K: Kind>(
-    start: usize,
-    next: u32,
-    cell: u16,
-    change: &K::Change,
-    out: &mut [u8],
-) -> bool
-    requires { start ≤ length out.old }
-    ensures done { result ≡ nat_le (start + (6 + K.Kind.model.width)) (length out.old) }
-    ensures area { out.new ≡ (if result then laid_at K.Kind.model start (record { next = next; cell = cell; change = K.Kind.model.change change.now }) out.old else out.old) }
-{
-    write_record::<K>(next, cell, change, &mut out[start..])
 }
 
 // Writes record `n` of a file to its place in `out`. False, and nothing written, where `out` ends before it does.
@@ -103,7 +79,7 @@ pub fn write_record_at<K: Kind>(
     if start > out.len() {
         return false;
     }
-    write_from::<K>(start, next, cell, change, out)
+    write_record::<K>(next, cell, change, &mut out[start..])
 }
 
 // Header and records, written in turn, make a file, and reading gives back what was written.

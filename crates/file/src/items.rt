@@ -3,12 +3,12 @@ ghost use Rattle.std.specs.Prelude.{◌≡◌};
 ghost use Rattle.file.specs.Items.{item, seen, after, Borrowed, answer, Again, InTurn};
 
 use crate::faults::FileFault;
-use crate::header::{Header, any_header};
-use crate::letters::width_under;
-use crate::records::{SavedRecord, saved_record};
+use crate::header::Header;
+use crate::records::SavedRecord;
+use crate::saved::SavedFile;
 
 // What comes from a file in turn.
-#[derive(Clone, Copy)]
+#[derive(Clone, Copy, Debug, PartialEq, Eq)]
 pub enum Item<'a> {
     Header(Header),
     Record(SavedRecord<'a>),
@@ -37,18 +37,17 @@ impl<'a> Items<'a> {
         ensures file { self.new.file ≡ self.old.file }
         ensures given { self.new.given ≡ after (seen result) self.old.given }
     {
-        let file = self.file;
+        let file = SavedFile::open_any(self.file)?;
         let given = self.given;
-        let header = any_header(file)?;
         if given == 0 {
             self.given = 1;
-            return Ok(Item::Header(header));
+            return Ok(Item::Header(file.header));
         }
-        if given > header.count {
+        if given > file.header.count {
             return Ok(Item::End);
         }
-        let found = saved_record(file, width_under(header.letter), given);
-        if found.cell >= header.cells {
+        let found = file.record(given);
+        if found.cell >= file.header.cells {
             return Err(FileFault::Cell(given));
         }
         self.given = given + 1;
@@ -61,7 +60,7 @@ pub fn nth_answer(file: &[u8], n: u32) -> Result<Item<'_>, FileFault>
     ensures { seen result ≡ answer file.now n }
 {
     let mut items = Items::new(file);
-    for _i in 0..n {
+    for _ in 0..n {
         let _ = items.next_item();
     }
     items.next_item()

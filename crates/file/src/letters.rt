@@ -1,28 +1,34 @@
 // The kinds on board, by the letter that opens a file.
-ghost use Rattle.std.specs.Prelude.{◌≡◌};
-ghost use Rattle.file.specs.Letters.{kind_of, width_of, width_under, LettersKnown};
+ghost use Rattle.std.specs.Prelude.{◌≡◌, ok_or};
+ghost use Rattle.file.specs.declared.faults.FileFault.TheVariants.{Letter};
+ghost use Rattle.file.specs.Letters.{kind_of, width_of, LettersKnown};
 
+use crate::faults::FileFault;
 use kind::Kind;
 use kind::bank_map::BankMap;
 use kind::block::Block;
 use kind::tally::Tally;
 
-#[derive(Clone, Copy)]
+#[derive(Clone, Copy, Debug, PartialEq, Eq)]
 pub enum BoardKind {
     Block,
     Tally,
     BankMap,
 }
 
-// The kind whose files begin with this letter: nothing else decides by a letter.
-pub fn kind_of(letter: char) -> Option<BoardKind>
-    ensures { result ≡ kind_of letter }
-{
-    match letter {
-        'B' => Some(BoardKind::Block),
-        'T' => Some(BoardKind::Tally),
-        'M' => Some(BoardKind::BankMap),
-        _ => None,
+// The kind whose files begin with this letter, or refusal 6: nothing else decides by a letter.
+impl TryFrom<char> for BoardKind {
+    type Error = FileFault;
+
+    ghost try_from_gives = { λ letter r. r ≡ ok_or (kind_of letter) Letter };
+
+    fn try_from(letter: char) -> Result<BoardKind, FileFault> {
+        match letter {
+            'B' => Ok(BoardKind::Block),
+            'T' => Ok(BoardKind::Tally),
+            'M' => Ok(BoardKind::BankMap),
+            _ => Err(FileFault::Letter),
+        }
     }
 }
 
@@ -36,16 +42,6 @@ impl BoardKind {
             BoardKind::Tally => Tally::width(),
             BoardKind::BankMap => BankMap::width(),
         }
-    }
-}
-
-// How many bytes a change has under this letter, or 0 where no kind has it.
-pub(crate) fn width_under(letter: char) -> usize
-    ensures { result ≡ width_under letter }
-{
-    match kind_of(letter) {
-        Some(kind) => kind.width(),
-        None => 0,
     }
 }
 

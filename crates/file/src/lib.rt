@@ -9,6 +9,7 @@ pub mod items;
 pub mod letters;
 mod numbers;
 pub mod records;
+pub mod saved;
 pub mod states;
 #[cfg(test)]
 mod tests;

@@ -1,16 +1,15 @@
 // The state of one cell, from a file alone.
-ghost use Rattle.std.specs.Prelude.{◌≡◌, ◌≤◌};
+ghost use Rattle.std.specs.Prelude.{◌≡◌, min};
 ghost use Rattle.std.specs.Result.{result_map_both};
 ghost use Rattle.std.specs.Option.{option_map as mapped_some};
-ghost use Rattle.file.specs.Header.{Whole, cells_at, count_at};
 ghost use Rattle.file.specs.Records.{parts_seen};
 ghost use Rattle.file.specs.States.{change_for, replayed, state_after};
 ghost use Rattle.file.specs.Told.{Recalls, Lasts};
 
 use crate::changes::read_change_at;
 use crate::faults::FileFault;
-use crate::header::read_header;
-use crate::records::{SavedRecord, saved_record};
+use crate::records::SavedRecord;
+use crate::saved::SavedFile;
 use kind::Kind;
 
 // What record `n` says of the cell: its change, or nothing where it is another cell's.
@@ -32,25 +31,21 @@ fn change_for<K: Kind>(
     if saved.next != last {
         return Err(FileFault::Next(n));
     }
-    let change = read_change_at::<K>(n, saved.change)?;
-    Ok(Some(change))
+    read_change_at::<K>(n, saved.change).map(Some)
 }
 
-// The cell's state after records 1 to `moment`.
-fn replayed<K: Kind>(file: &[u8], cells: u16, cell: u32, moment: u32) -> Result<K::State, FileFault>
-    requires whole { Whole K.Kind.model.width file.now }
-    requires cells { cells ≡ cells_at file.now }
-    requires moment { moment ≤ count_at file.now }
-    ensures { result ≡ result_map_both K.Kind.model.plain_state (λ e. e) (replayed K.Kind.model file.now cell moment) }
+// The cell's state after the first `moment` records, or after all where there are fewer.
+fn replayed<K: Kind>(file: SavedFile<'_>, cell: u32, moment: u32) -> Result<K::State, FileFault>
+    requires of_kind { file.width ≡ K.Kind.model.width }
+    ensures { result ≡ result_map_both K.Kind.model.plain_state (λ e. e) (replayed K.Kind.model file.entry.bytes.now cell (min moment file.entry.header.count)) }
 {
-    let width = K::width();
+    let cells = file.header.cells;
     let mut state = K::origin();
     let mut last = 0;
-    for i in 0..moment {
-        let saved = saved_record(file, width, i + 1);
-        if let Some(change) = change_for::<K>(saved, cells, cell, i + 1, last)? {
+    for (n, saved) in file.records().take(moment as usize) {
+        if let Some(change) = change_for::<K>(saved, cells, cell, n, last)? {
             state = K::act(&change, &state);
-            last = i + 1;
+            last = n;
         }
     }
     Ok(state)
@@ -61,8 +56,7 @@ fn replayed<K: Kind>(file: &[u8], cells: u16, cell: u32, moment: u32) -> Result<
 pub fn state_after<K: Kind>(file: &[u8], cell: u32, moment: u32) -> Result<K::State, FileFault>
     ensures { result ≡ result_map_both K.Kind.model.plain_state (λ e. e) (state_after K.Kind.model file.now cell moment) }
 {
-    let header = read_header::<K>(file)?;
-    replayed::<K>(file, header.cells, cell, moment.min(header.count))
+    replayed::<K>(SavedFile::open::<K>(file, None)?, cell, moment)
 }
 
 // The state is the origin acted on by the cell's changes in order, and a record's next is held to the greatest lower

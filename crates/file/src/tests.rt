@@ -15,10 +15,7 @@ const SAVED: [u8; 28] = [
 
 // The number of a refusal, or 0.
 fn refusal<T: Drop>(r: Result<T, FileFault>) -> u8 {
-    match r {
-        Ok(_) => 0,
-        Err(fault) => fault.number(),
-    }
+    r.err().map_or(0, |fault| fault.number())
 }
 
 // The worked file with one byte changed.
@@ -31,10 +28,7 @@ fn with(at: usize, byte: u8) -> [u8; 28] {
 }
 
 fn state(file: &[u8], cell: u32, moment: u32) -> i32 {
-    match state_after::<Tally>(file, cell, moment) {
-        Ok(s) => s,
-        Err(fault) => 1000 + fault.number() as i32,
-    }
+    state_after::<Tally>(file, cell, moment).unwrap_or_else(|fault| 1000 + fault.number() as i32)
 }
 
 #[test]
@@ -99,8 +93,8 @@ fn mark(r: Result<Item, FileFault>) -> u32 {
 fn five(file: &[u8]) -> [u32; 5] {
     let mut items = Items::new(file);
     let mut marks = [0; 5];
-    for i in 0..5 {
-        marks[i] = mark(items.next_item());
+    for m in &mut marks {
+        *m = mark(items.next_item());
     }
     marks
 }

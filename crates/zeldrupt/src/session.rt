@@ -4,7 +4,7 @@ use crate::memory::Memory;
 use file::faults::FileFault;
 use file::header::any_header;
 use file::items::{Item, Items};
-use file::letters::{BoardKind, kind_of};
+use file::letters::BoardKind;
 use file::records::SavedRecord;
 use kind::Kind;
 use kind::bank_map::BankMap;
@@ -154,9 +154,7 @@ impl Session {
         let heap = self.heap;
         let file = fs::read(rt, path)?;
         let header = any_header(file.as_slice())?;
-        let Some(kind) = kind_of(header.letter) else {
-            return Err(Fault::File(FileFault::Letter));
-        };
+        let kind = BoardKind::try_from(header.letter)?;
         let width = kind.width();
         let length = area.unwrap_or(256).min(256) as usize;
         let mut out = vec![in heap; 0u8; length]?;
