@@ -7,19 +7,7 @@ ghost use Rattle.file.specs.Records.{record_start};
 use crate::header::VERSION;
 use crate::records::{RECORD, start_of};
 use kind::Kind;
-
-// Writes `form` to the front of `out`, or nothing where it is too long.
-fn put(form: &[u8], out: &mut [u8]) -> bool
-    ensures done { result ≡ nat_le (length form.now) (length out.old) }
-    ensures area { out.new ≡ (if result then form.now ++ drop (length form.now) out.old else out.old) }
-{
-    let n = form.len();
-    if n > out.len() {
-        return false;
-    }
-    out[0..n].copy_from_slice(form);
-    true
-}
+use kind::forms::put;
 
 // The eight bytes of a header.
 fn header_bytes(letter: u8, cells: u16, count: u32) -> [u8; 8]

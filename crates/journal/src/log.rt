@@ -3,10 +3,9 @@ ghost use Rattle.std.specs.Prelude.{◌≡◌, length, nat_lt, slice_set};
 ghost use Rattle.journal.specs.Appends.{planned};
 ghost use Rattle.journal.specs.Spans.{spanned};
 
-use crate::append::{append_record, next_record};
 use crate::faults::LadderFault;
-use crate::record::Record;
-use crate::walk::{Stretch, span};
+use crate::record::{Record, place_of};
+use crate::walk::{Chain, Stretch};
 use kind::Kind;
 
 // The records of a volume, with changes of type C. How many are written, the caller knows.
@@ -30,6 +29,19 @@ impl<'a, C: Copy> Log<'a, C> {
         self.records.len()
     }
 
+    // The records, linked for a cell with this head.
+    pub fn chain<K: Kind<Change = C>>(&self, cell: u16, head: u32) -> Chain<'_, K>
+        ensures records { result.records.now ≡ self.now.records.now }
+        ensures cell { result.cell ≡ cell }
+        ensures head { result.head ≡ head }
+    {
+        Chain {
+            records: self.records,
+            cell,
+            head,
+        }
+    }
+
     // The change of a cell from moment `a` to moment `b`, and the steps that were taken.
     pub fn span<K: Kind<Change = C>>(
         &self,
@@ -41,10 +53,11 @@ impl<'a, C: Copy> Log<'a, C> {
     ) -> Result<Stretch<C>, LadderFault>
         ensures { result ≡ spanned K.Kind.model self.now.records.now count head cell a b }
     {
-        span::<K>(self.records, count, head, cell, a, b)
+        self.chain::<K>(cell, head).span(count, a, b)
     }
 
     // Record `number`, which logs the change of a cell with this head; it is not yet written.
+    #[inline(always)]
     pub fn next_record<K: Kind<Change = C>>(
         &self,
         number: u32,
@@ -54,15 +67,22 @@ impl<'a, C: Copy> Log<'a, C> {
     ) -> Result<Record<C>, LadderFault>
         ensures { result ≡ planned K.Kind.model self.now.records.now number head cell change.now }
     {
-        next_record::<K>(self.records, number, head, cell, change)
+        self.chain::<K>(cell, head).next_record(number, change)
     }
 
-    // Lays `r` down as record `count` + 1, and answers whether it fits; where it does not, nothing changes.
+    // Lays `r` down as record `count` + 1, and answers whether it fits; where it does not, nothing changes. The only writing of a
+    // record. A `bool`, no plainer as an error: whether it fits is a value that clauses name.
+    #[inline(always)]
     pub fn append(&mut self, count: u32, r: Record<C>) -> bool
         ensures answer { result ≡ nat_lt count (length self.old.records.now) }
         ensures after { self.new.records.now ≡ slice_set self.old.records.now count r }
         ensures same { self.new.records.ghost_name ≡ self.old.records.ghost_name }
     {
-        append_record(self.records, count, r)
+        let place = place_of(count as usize + 1);
+        if place >= self.capacity() {
+            return false;
+        }
+        self.records[place] = r;
+        true
     }
 }

@@ -3,7 +3,7 @@ ghost use Rattle.std.specs.Prelude.{◌≡◌};
 ghost use Rattle.journal.specs.Links.{place_of};
 
 // One change of one cell, with changes of type C. Records are numbered from 1 in the order of writing.
-#[derive(Clone, Copy)]
+#[derive(Clone, Copy, Debug, PartialEq, Eq)]
 pub struct Record<C> {
     pub cell: u16,
     // the cell's record before this one, or 0

@@ -34,6 +34,12 @@ module _ {PS PC : Type 0} (K : Model PS PC) where
       refuse_if (nat_le (length rs) count) Full (
       Ok (slice_set rs count r)))
 
+  -- the change f of cell c is logged, and s put in its place
+  abbrev pub changed_to : Memory PS PC → ℕ → PC → PS → Result (Memory PS PC) Refusal
+  changed_to m c f s =
+      and_then (logged m.records m.count (m.count + 1) (slice_index m.heads c) c f) (λ rs.
+      Ok (memory (slice_set m.cells c s) (slice_set m.heads c (m.count + 1)) rs (m.count + 1)))
+
   -- every cell is the origin, every head and the count are zero; the records are untouched
   abbrev pub emptied : Memory PS PC → Memory PS PC
   emptied m = memory (replicate (length m.cells) origin) (replicate (length m.heads) 0) m.records 0
@@ -49,8 +55,7 @@ module _ {PS PC : Type 0} (K : Model PS PC) where
   wrote m cell s =
       and_then (sound (length m.cells) (length m.heads) (length m.records) m.count) (λ _.
       refuse_if (nat_le (length m.cells) cell) Cell (
-      and_then (logged m.records m.count (m.count + 1) (slice_index m.heads cell) cell (difference (slice_index_or m.cells cell origin) s)) (λ rs.
-      Ok (memory (slice_set m.cells cell s) (slice_set m.heads cell (m.count + 1)) rs (m.count + 1)))))
+      changed_to m cell (difference (slice_index_or m.cells cell origin) s) s))
 
   -- read: the state of a cell
   abbrev pub looked : Memory PS PC → ℕ → Result PS Refusal

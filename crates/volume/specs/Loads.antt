@@ -1,5 +1,5 @@
 -- Load: a volume filled from a file. Assumes nothing.
-use Rattle.std.specs.Prelude.{ℕ, zero, suc, ◌+◌, not, List, length, Some, Ok, Err, Result, ◌==◌, nat_le, slice_index, slice_index_or, slice_set}
+use Rattle.std.specs.Prelude.{ℕ, zero, suc, ◌+◌, not, List, length, Some, Ok, Err, Result, ◌==◌, nat_le, slice_index, slice_index_or}
 use Rattle.kind.specs.Answers.{and_then, refuse_if, refused_as, kept}
 use Rattle.kind.specs.Model.{Model}
 use Rattle.file.specs.declared.faults.FileFault.TheVariants.{Cell, Next}
@@ -10,17 +10,15 @@ use Rattle.file.specs.Records.{Parts}
 use Rattle.file.specs.States.{saved}
 use Rattle.volume.specs.declared.refusal.Refusal.{Refusal}
 use Rattle.volume.specs.declared.refusal.Refusal.TheVariants.{File}
-use Rattle.volume.specs.Calls.{origin, emptied, logged}
-use Rattle.volume.specs.Memory.{Memory, memory}
+use Rattle.volume.specs.Calls.{origin, changed_to, emptied}
+use Rattle.volume.specs.Memory.{Memory}
 use Rattle.volume.specs.Rolls.{acted}
 use Rattle.volume.specs.Sizes.{sized}
 
 module _ {PS PC : Type 0} (K : Model PS PC) where
   -- cell c changed by f, and the change logged
   abbrev pub entered : Memory PS PC → ℕ → PC → Result (Memory PS PC) Refusal
-  entered m c f =
-      and_then (logged K m.records m.count (m.count + 1) (slice_index m.heads c) c f) (λ rs.
-      Ok (memory (slice_set m.cells c (acted K f (slice_index_or m.cells c (origin K)))) (slice_set m.heads c (m.count + 1)) rs (m.count + 1)))
+  entered m c f = changed_to K m c f (acted K f (slice_index_or m.cells c (origin K)))
 
   -- record n, of these parts, taken in: its next is to be the greatest lower record number of its cell
   abbrev pub took_parts : Memory PS PC → ℕ → Parts → Result (Memory PS PC) Refusal

@@ -1,5 +1,5 @@
 -- The memory of a volume, which its caller lends. Assumes nothing.
-use Rattle.std.specs.Prelude.{ℕ, List}
+use Rattle.std.specs.Prelude.{◌≡◌, ℕ, List}
 use Rattle.journal.specs.declared.record.Record.{Record}
 use Rattle.volume.specs.declared.Volume.{Volume}
 
@@ -18,3 +18,10 @@ memory cells heads records count = record { cells = cells; heads = heads; record
 -- what a volume holds
 abbrev pub held : {T PS PC : Type 0} → Volume T PS PC → Memory PS PC
 held v = memory v.cells.now v.heads.now v.records.now v.count.now
+
+-- the references that were lent are the same
+pub record KeepsLoans {T PS PC : Type 0} (old new : Volume T PS PC) : Type 0 where
+  pub cells : new.cells.ghost_name ≡ old.cells.ghost_name
+  pub heads : new.heads.ghost_name ≡ old.heads.ghost_name
+  pub records : new.records.ghost_name ≡ old.records.ghost_name
+  pub count : new.count.ghost_name ≡ old.count.ghost_name

@@ -1,131 +1,105 @@
 // The calls: format, write, read and span.
-ghost use Rattle.std.specs.Prelude.{◌≡◌, ◌+◌};
+ghost use Rattle.std.specs.Prelude.{◌≡◌, ◌+◌, ◌^◌, ◌<◌, ◌≤◌, length};
 ghost use Rattle.kind.specs.Answers.{told, kept};
-ghost use Rattle.volume.specs.Calls.{emptied, cleared, formatted, wrote, written, looked, state_read, measured, change_between, steps_of, change_of};
-ghost use Rattle.volume.specs.Memory.{held};
+ghost use Rattle.volume.specs.Calls.{emptied, changed_to, cleared, formatted, wrote, written, looked, state_read, measured, change_between, steps_of, change_of};
+ghost use Rattle.volume.specs.Memory.{held, KeepsLoans};
 
 use crate::Volume;
-use crate::parts::{copy_state, fill_with, log_change, put_span};
+use crate::parts::{fill_with, log_change};
 use crate::refusal::Refusal;
-use crate::sizes::{check_memory, check_sizes};
+use crate::reverts::state_at;
+use crate::sizes::check_sizes;
 use kind::Kind;
 
 impl<K: Kind> Volume<'_, '_, '_, '_, K> {
     // Sets every cell to the origin, every head and the count to zero.
     pub(crate) fn empty(&mut self)
         ensures after { held self.new ≡ emptied K.Kind.model (held self.old) }
-        ensures cells_same { self.new.cells.ghost_name ≡ self.old.cells.ghost_name }
-        ensures heads_same { self.new.heads.ghost_name ≡ self.old.heads.ghost_name }
-        ensures records_same { self.new.records.ghost_name ≡ self.old.records.ghost_name }
-        ensures count_same { self.new.count.ghost_name ≡ self.old.count.ghost_name }
+        ensures loans { KeepsLoans self.old self.new }
     {
         fill_with(self.cells, K::origin());
-        fill_with(self.heads, 0);
+        self.heads.fill(0);
         *self.count = 0;
     }
 
-    fn clear(&mut self) -> Result<(), Refusal>
-        ensures answer { result ≡ told tt (cleared K.Kind.model (held self.old)) }
-        ensures after { held self.new ≡ kept (held self.old) (cleared K.Kind.model (held self.old)) }
-        ensures cells_same { self.new.cells.ghost_name ≡ self.old.cells.ghost_name }
-        ensures heads_same { self.new.heads.ghost_name ≡ self.old.heads.ghost_name }
-        ensures records_same { self.new.records.ghost_name ≡ self.old.records.ghost_name }
-        ensures count_same { self.new.count.ghost_name ≡ self.old.count.ghost_name }
+    // Sets every cell to the origin and forgets the log. Refusals 1 to 3.
+    #[tactic(auto, unfolding(crate::specs::Calls::formatted))]
+    pub fn format(&mut self) -> Result<(), Refusal>
+        ensures answer { result ≡ told tt (formatted K.Kind.model (held self.old)) }
+        ensures after { held self.new ≡ kept (held self.old) (formatted K.Kind.model (held self.old)) }
+        ensures loans { KeepsLoans self.old self.new }
     {
         check_sizes(self.cells.len(), self.heads.len(), self.records.len())?;
         self.empty();
         Ok(())
     }
 
-    // Sets every cell to the origin and forgets the log. Refusals 1 to 3.
-    pub fn format(&mut self) -> Result<(), Refusal>
-        ensures answer { result ≡ told tt (formatted K.Kind.model (held self.old)) }
-        ensures after { held self.new ≡ kept (held self.old) (formatted K.Kind.model (held self.old)) }
-        ensures cells_same { self.new.cells.ghost_name ≡ self.old.cells.ghost_name }
-        ensures heads_same { self.new.heads.ghost_name ≡ self.old.heads.ghost_name }
-        ensures records_same { self.new.records.ghost_name ≡ self.old.records.ghost_name }
-        ensures count_same { self.new.count.ghost_name ≡ self.old.count.ghost_name }
+    // Logs the change of a cell and puts `state` in its place, and answers the new count. A change that is not logged changes nothing.
+    #[inline(always)]
+    pub(crate) fn put(
+        &mut self,
+        i: usize,
+        change: &K::Change,
+        state: &K::State,
+    ) -> Result<u32, Refusal>
+        requires there { i < length self.old.cells.now }
+        requires paired { length self.old.heads.now ≡ length self.old.cells.now }
+        requires narrow { i < 2 ^ 16 }
+        requires low { self.old.count.now ≤ 65535 }
+        ensures answer { result ≡ told ((held self.old).count + 1) (changed_to K.Kind.model (held self.old) i change.now state.now) }
+        ensures after { held self.new ≡ kept (held self.old) (changed_to K.Kind.model (held self.old) i change.now state.now) }
+        ensures loans { KeepsLoans self.old self.new }
     {
-        self.clear()
+        let head = self.heads[i];
+        let count = *self.count;
+        log_change::<K>(self.records, count, head, i as u16, change)?;
+        self.cells[i] = *state;
+        self.heads[i] = count + 1;
+        *self.count = count + 1;
+        Ok(count + 1)
     }
 
-    fn set_cell(&mut self, cell: u32, state: &K::State) -> Result<u32, Refusal>
-        ensures answer { result ≡ told ((held self.old).count + 1) (wrote K.Kind.model (held self.old) cell state.now) }
-        ensures after { held self.new ≡ kept (held self.old) (wrote K.Kind.model (held self.old) cell state.now) }
-        ensures cells_same { self.new.cells.ghost_name ≡ self.old.cells.ghost_name }
-        ensures heads_same { self.new.heads.ghost_name ≡ self.old.heads.ghost_name }
-        ensures records_same { self.new.records.ghost_name ≡ self.old.records.ghost_name }
-        ensures count_same { self.new.count.ghost_name ≡ self.old.count.ghost_name }
+    // Logs the difference from the cell's state to `state`, puts `state` in its place and answers the new count. Refusals 1 to 4, 13, 18, 19.
+    #[tactic(auto, unfolding(crate::specs::Calls::written))]
+    #[inline(always)]
+    pub fn write(&mut self, cell: u32, state: &K::State) -> Result<u32, Refusal>
+        ensures answer { result ≡ told ((held self.old).count + 1) (written K.Kind.model (held self.old) cell state.now) }
+        ensures after { held self.new ≡ kept (held self.old) (written K.Kind.model (held self.old) cell state.now) }
+        ensures loans { KeepsLoans self.old self.new }
     {
-        check_memory(
-            self.cells.len(),
-            self.heads.len(),
-            self.records.len(),
-            *self.count,
-        )?;
+        self.check_memory()?;
         let i = cell as usize;
         if i >= self.cells.len() {
             return Err(Refusal::Cell);
         }
         let change = K::difference(&self.cells[i], state);
-        let head = self.heads[i];
-        let count = *self.count;
-        let number = count + 1;
-        log_change::<K>(self.records, count, number, head, cell as u16, &change)?;
-        self.cells[i] = *state;
-        self.heads[i] = number;
-        *self.count = number;
-        Ok(number)
-    }
-
-    // Logs the difference from the cell's state to `state`, puts `state` in its place and answers the new count. Refusals 1 to 4, 13, 18, 19.
-    pub fn write(&mut self, cell: u32, state: &K::State) -> Result<u32, Refusal>
-        ensures answer { result ≡ told ((held self.old).count + 1) (written K.Kind.model (held self.old) cell state.now) }
-        ensures after { held self.new ≡ kept (held self.old) (written K.Kind.model (held self.old) cell state.now) }
-        ensures cells_same { self.new.cells.ghost_name ≡ self.old.cells.ghost_name }
-        ensures heads_same { self.new.heads.ghost_name ≡ self.old.heads.ghost_name }
-        ensures records_same { self.new.records.ghost_name ≡ self.old.records.ghost_name }
-        ensures count_same { self.new.count.ghost_name ≡ self.old.count.ghost_name }
-    {
-        self.set_cell(cell, state)
-    }
-
-    fn read_cell(&self, cell: u32, place: &mut K::State) -> Result<(), Refusal>
-        ensures answer { result ≡ told tt (looked K.Kind.model (held self.now) cell) }
-        ensures put { place.new ≡ kept place.old (looked K.Kind.model (held self.now) cell) }
-    {
-        check_memory(
-            self.cells.len(),
-            self.heads.len(),
-            self.records.len(),
-            *self.count,
-        )?;
-        let i = cell as usize;
-        if i >= self.cells.len() {
-            return Err(Refusal::Cell);
-        }
-        copy_state(self.cells, i, place);
-        Ok(())
+        self.put(i, &change, state)
     }
 
     // Copies the state of a cell to `place`. Refusals 1 to 4, 13.
+    #[tactic(auto, unfolding(crate::specs::Calls::state_read))]
+    #[inline(always)]
     pub fn read(&self, cell: u32, place: &mut K::State) -> Result<(), Refusal>
         ensures answer { result ≡ told tt (state_read K.Kind.model (held self.now) cell) }
         ensures put { place.new ≡ kept place.old (state_read K.Kind.model (held self.now) cell) }
     {
-        self.read_cell(cell, place)
+        self.check_memory()?;
+        let i = cell as usize;
+        if i >= self.cells.len() {
+            return Err(Refusal::Cell);
+        }
+        *place = state_at::<K>(self.cells, i);
+        Ok(())
     }
 
-    fn find_span(&self, cell: u32, a: u32, b: u32, place: &mut K::Change) -> Result<u32, Refusal>
-        ensures answer { result ≡ steps_of (measured K.Kind.model (held self.now) cell a b) }
-        ensures put { place.new ≡ change_of place.old (measured K.Kind.model (held self.now) cell a b) }
+    // Puts the change of a cell from moment `a` to moment `b` into `place` and answers the steps that it took. Refusals 1 to 4, 13, 14, 18.
+    #[tactic(auto, unfolding(crate::specs::Calls::change_between))]
+    #[inline(always)]
+    pub fn span(&self, cell: u32, a: u32, b: u32, place: &mut K::Change) -> Result<u32, Refusal>
+        ensures answer { result ≡ steps_of (change_between K.Kind.model (held self.now) cell a b) }
+        ensures put { place.new ≡ change_of place.old (change_between K.Kind.model (held self.now) cell a b) }
     {
-        check_memory(
-            self.cells.len(),
-            self.heads.len(),
-            self.records.len(),
-            *self.count,
-        )?;
+        self.check_memory()?;
         let i = cell as usize;
         if i >= self.cells.len() {
             return Err(Refusal::Cell);
@@ -134,15 +108,8 @@ impl<K: Kind> Volume<'_, '_, '_, '_, K> {
         if a > count || b > count {
             return Err(Refusal::Moment);
         }
-        let head = self.heads[i];
-        put_span::<K>(self.records, count, head, cell as u16, a, b, place)
-    }
-
-    // Puts the change of a cell from moment `a` to moment `b` into `place` and answers the steps that it took. Refusals 1 to 4, 13, 14, 18.
-    pub fn span(&self, cell: u32, a: u32, b: u32, place: &mut K::Change) -> Result<u32, Refusal>
-        ensures answer { result ≡ steps_of (change_between K.Kind.model (held self.now) cell a b) }
-        ensures put { place.new ≡ change_of place.old (change_between K.Kind.model (held self.now) cell a b) }
-    {
-        self.find_span(cell, a, b, place)
+        let found = self.chain(i).span(count, a, b)?;
+        *place = found.change;
+        Ok(found.steps)
     }
 }

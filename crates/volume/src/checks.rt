@@ -14,10 +14,9 @@ use crate::Volume;
 use crate::parts::fill_with;
 use crate::refusal::{Refusal, Wrong};
 use crate::reverts::state_at;
-use crate::sizes::{check_memory, check_sizes};
-use journal::append::next_record;
+use crate::sizes::check_sizes;
 use journal::record::{Record, cell_of, place_of};
-use journal::walk::span;
+use journal::walk::Chain;
 use kind::Kind;
 
 impl From<Wrong> for Refusal {
@@ -45,10 +44,14 @@ fn is_right_record<K: Kind>(records: &[Record<K::Change>], number: u32, newest: 
     ensures { result ≡ as_planned K.Kind.model (numbered K.Kind.model records.now number) (planned K.Kind.model records.now number newest (numbered K.Kind.model records.now number).cell (numbered K.Kind.model records.now number).change) }
 {
     let r = &records[place_of(number as usize)];
-    match next_record::<K>(records, number, newest, cell_of(r), &r.change) {
-        Ok(planned) => is_like::<K>(r, &planned),
-        Err(_) => false,
-    }
+    let chain = Chain::<K> {
+        records,
+        cell: cell_of(r),
+        head: newest,
+    };
+    chain
+        .next_record(number, &r.change)
+        .is_ok_and(|planned| is_like::<K>(r, &planned))
 }
 
 // Whether record `number` is right, `work` having each cell's newest record before it; if so, `work` takes it in.
@@ -110,10 +113,15 @@ fn is_changed<K: Kind>(
 ) -> bool
     ensures { result ≡ as_changed K.Kind.model state.now (spanned K.Kind.model records.now count head cell 0 count) }
 {
-    match span::<K>(records, count, head, cell, 0, count) {
-        Ok(found) => K::same_state(state, &K::act(&found.change, &K::origin())),
-        Err(_) => false,
-    }
+    let chain = Chain::<K> {
+        records,
+        cell,
+        head,
+    };
+    chain.span(count, 0, count).is_ok_and(|found| K::same_state(
+        state,
+        &K::act(&found.change, &K::origin()),
+    ))
 }
 
 impl<K: Kind> Volume<'_, '_, '_, '_, K> {
@@ -159,27 +167,16 @@ impl<K: Kind> Volume<'_, '_, '_, '_, K> {
         self.check_cells()
     }
 
-    fn examine(&self, work: &mut [u32]) -> Result<(), Refusal>
-        ensures answer { result ≡ examined K.Kind.model (held self.now) work.old }
-        ensures after { work.new ≡ kept work.old (and_then (workable K.Kind.model (held self.now) work.old) (λ _. Ok (noted K.Kind.model (held self.now)))) }
-    {
-        check_sizes(self.cells.len(), work.len(), 0)?;
-        check_memory(
-            self.cells.len(),
-            self.heads.len(),
-            self.records.len(),
-            *self.count,
-        )?;
-        self.judge(work)?;
-        Ok(())
-    }
-
     // Whether cells, heads, count and the records written are what some writes after a format leave. The work row, as long as
     // the heads, then holds each cell's newest record among those before the lowest wrong one. Refusals 1 to 4, 20.
+    #[tactic(auto, unfolding(crate::specs::Checks::checked, crate::specs::Checks::work_after))]
     pub fn check(&self, work: &mut [u32]) -> Result<(), Refusal>
         ensures answer { result ≡ checked K.Kind.model (held self.now) work.old }
         ensures after { work.new ≡ work_after K.Kind.model (held self.now) work.old }
     {
-        self.examine(work)
+        check_sizes(self.cells.len(), work.len(), 0)?;
+        self.check_memory()?;
+        self.judge(work)?;
+        Ok(())
     }
 }

@@ -5,11 +5,10 @@ ghost use Rattle.file.specs.Header.{Fits, Whole, count_at};
 ghost use Rattle.file.specs.Records.{parts_seen};
 ghost use Rattle.volume.specs.Calls.{emptied};
 ghost use Rattle.volume.specs.Loads.{entered, took_parts, took, took_to, reached, headed, filled, settled, left, loaded, load_leaves};
-ghost use Rattle.volume.specs.Memory.{held};
+ghost use Rattle.volume.specs.Memory.{held, KeepsLoans};
 ghost use Rattle.volume.specs.Reverts.{count_of};
 
 use crate::Volume;
-use crate::parts::log_change;
 use crate::refusal::Refusal;
 use crate::sizes::check_sizes;
 use file::changes::read_change_at;
@@ -26,19 +25,11 @@ impl<K: Kind> Volume<'_, '_, '_, '_, K> {
         requires low { self.old.count.now ≤ 65535 }
         ensures answer { result ≡ told tt (entered K.Kind.model (held self.old) cell change.now) }
         ensures after { held self.new ≡ kept (held self.old) (entered K.Kind.model (held self.old) cell change.now) }
-        ensures cells_same { self.new.cells.ghost_name ≡ self.old.cells.ghost_name }
-        ensures heads_same { self.new.heads.ghost_name ≡ self.old.heads.ghost_name }
-        ensures records_same { self.new.records.ghost_name ≡ self.old.records.ghost_name }
-        ensures count_same { self.new.count.ghost_name ≡ self.old.count.ghost_name }
+        ensures loans { KeepsLoans self.old self.new }
     {
         let i = cell as usize;
-        let head = self.heads[i];
-        let count = *self.count;
-        let number = count + 1;
-        log_change::<K>(self.records, count, number, head, cell, change)?;
-        self.cells[i] = K::act(change, &self.cells[i]);
-        self.heads[i] = number;
-        *self.count = number;
+        let state = K::act(change, &self.cells[i]);
+        self.put(i, change, &state)?;
         Ok(())
     }
 
@@ -48,10 +39,7 @@ impl<K: Kind> Volume<'_, '_, '_, '_, K> {
         requires low { self.old.count.now ≤ 65535 }
         ensures answer { result ≡ told tt (took_parts K.Kind.model (held self.old) n (parts_seen saved.entry)) }
         ensures after { held self.new ≡ kept (held self.old) (took_parts K.Kind.model (held self.old) n (parts_seen saved.entry)) }
-        ensures cells_same { self.new.cells.ghost_name ≡ self.old.cells.ghost_name }
-        ensures heads_same { self.new.heads.ghost_name ≡ self.old.heads.ghost_name }
-        ensures records_same { self.new.records.ghost_name ≡ self.old.records.ghost_name }
-        ensures count_same { self.new.count.ghost_name ≡ self.old.count.ghost_name }
+        ensures loans { KeepsLoans self.old self.new }
     {
         let i = saved.cell as usize;
         if i >= self.cells.len() {
@@ -73,10 +61,7 @@ impl<K: Kind> Volume<'_, '_, '_, '_, K> {
         requires there { n ≤ count_at file.now }
         ensures answer { result ≡ told tt (took K.Kind.model file.now (held self.old) n) }
         ensures after { held self.new ≡ kept (held self.old) (took K.Kind.model file.now (held self.old) n) }
-        ensures cells_same { self.new.cells.ghost_name ≡ self.old.cells.ghost_name }
-        ensures heads_same { self.new.heads.ghost_name ≡ self.old.heads.ghost_name }
-        ensures records_same { self.new.records.ghost_name ≡ self.old.records.ghost_name }
-        ensures count_same { self.new.count.ghost_name ≡ self.old.count.ghost_name }
+        ensures loans { KeepsLoans self.old self.new }
     {
         let saved = record_at(file, K::width(), n)?;
         self.take_parts(saved, n)
@@ -90,10 +75,7 @@ impl<K: Kind> Volume<'_, '_, '_, '_, K> {
         requires there { count ≤ count_at file.now }
         ensures answer { result ≡ told tt (took_to K.Kind.model file.now (held self.old) count) }
         ensures after { held self.new ≡ reached K.Kind.model file.now (held self.old) count }
-        ensures cells_same { self.new.cells.ghost_name ≡ self.old.cells.ghost_name }
-        ensures heads_same { self.new.heads.ghost_name ≡ self.old.heads.ghost_name }
-        ensures records_same { self.new.records.ghost_name ≡ self.old.records.ghost_name }
-        ensures count_same { self.new.count.ghost_name ≡ self.old.count.ghost_name }
+        ensures loans { KeepsLoans self.old self.new }
     {
         for i in 0..count {
             self.take_record(file, i + 1)?;
@@ -108,10 +90,7 @@ impl<K: Kind> Volume<'_, '_, '_, '_, K> {
         requires there { count ≤ count_at file.now }
         ensures answer { result ≡ count_of (took_to K.Kind.model file.now (emptied K.Kind.model (held self.old)) count) }
         ensures after { held self.new ≡ settled K.Kind.model (reached K.Kind.model file.now (emptied K.Kind.model (held self.old)) count) (took_to K.Kind.model file.now (emptied K.Kind.model (held self.old)) count) }
-        ensures cells_same { self.new.cells.ghost_name ≡ self.old.cells.ghost_name }
-        ensures heads_same { self.new.heads.ghost_name ≡ self.old.heads.ghost_name }
-        ensures records_same { self.new.records.ghost_name ≡ self.old.records.ghost_name }
-        ensures count_same { self.new.count.ghost_name ≡ self.old.count.ghost_name }
+        ensures loans { KeepsLoans self.old self.new }
     {
         self.empty();
         match self.take_records(file, count) {
@@ -136,29 +115,16 @@ impl<K: Kind> Volume<'_, '_, '_, '_, K> {
         Ok(header)
     }
 
-    fn fill_from(&mut self, file: &[u8]) -> Result<u32, Refusal>
-        ensures answer { result ≡ count_of (filled K.Kind.model (held self.old) file.now) }
-        ensures after { held self.new ≡ left K.Kind.model (held self.old) file.now }
-        ensures cells_same { self.new.cells.ghost_name ≡ self.old.cells.ghost_name }
-        ensures heads_same { self.new.heads.ghost_name ≡ self.old.heads.ghost_name }
-        ensures records_same { self.new.records.ghost_name ≡ self.old.records.ghost_name }
-        ensures count_same { self.new.count.ghost_name ≡ self.old.count.ghost_name }
-    {
-        let header = self.check_header(file)?;
-        self.refill(file, header.count)
-    }
-
     // Fills the volume from a file of its kind, rebuilds the links and answers the count. Refusals 1 to 3 and 5 to 10 change
     // nothing. 15 to 17, tried record by record, leave a formatted volume with the records before the faulty one in its log; so
     // would 18 and 19, should logging refuse.
+    #[tactic(auto, unfolding(crate::specs::Loads::loaded, crate::specs::Loads::load_leaves))]
     pub fn load(&mut self, file: &[u8]) -> Result<u32, Refusal>
         ensures answer { result ≡ count_of (loaded K.Kind.model (held self.old) file.now) }
         ensures after { held self.new ≡ load_leaves K.Kind.model (held self.old) file.now }
-        ensures cells_same { self.new.cells.ghost_name ≡ self.old.cells.ghost_name }
-        ensures heads_same { self.new.heads.ghost_name ≡ self.old.heads.ghost_name }
-        ensures records_same { self.new.records.ghost_name ≡ self.old.records.ghost_name }
-        ensures count_same { self.new.count.ghost_name ≡ self.old.count.ghost_name }
+        ensures loans { KeepsLoans self.old self.new }
     {
-        self.fill_from(file)
+        let header = self.check_header(file)?;
+        self.refill(file, header.count)
     }
 }

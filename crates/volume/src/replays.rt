@@ -7,7 +7,6 @@ ghost use Rattle.volume.specs.Replays.{cell_known, played, played_to, remade, re
 use crate::Volume;
 use crate::parts::fill_with;
 use crate::refusal::Refusal;
-use crate::sizes::check_memory;
 use journal::faults::LadderFault;
 use journal::record::{Record, cell_of, place_of};
 use kind::Kind;
@@ -64,16 +63,13 @@ fn play_records<K: Kind>(image: &mut [K::State], records: &[Record<K::Change>], 
 }
 
 impl<K: Kind> Volume<'_, '_, '_, '_, K> {
-    fn remake_image(&self, image: &mut [K::State], moment: u32) -> Result<(), Refusal>
-        ensures answer { result ≡ told tt (remade K.Kind.model (held self.now) image.old moment) }
-        ensures put { image.new ≡ kept image.old (remade K.Kind.model (held self.now) image.old moment) }
+    // Sets the image to origins and acts on it with records 1 to `moment` in order. Refusals 1 to 4, 12, 14, 18.
+    #[tactic(auto, unfolding(crate::specs::Replays::replayed))]
+    pub fn replay(&self, image: &mut [K::State], moment: u32) -> Result<(), Refusal>
+        ensures answer { result ≡ told tt (replayed K.Kind.model (held self.now) image.old moment) }
+        ensures put { image.new ≡ kept image.old (replayed K.Kind.model (held self.now) image.old moment) }
     {
-        check_memory(
-            self.cells.len(),
-            self.heads.len(),
-            self.records.len(),
-            *self.count,
-        )?;
+        self.check_memory()?;
         if image.len() != self.cells.len() {
             return Err(Refusal::Image);
         }
@@ -83,13 +79,5 @@ impl<K: Kind> Volume<'_, '_, '_, '_, K> {
         try_records::<K>(self.records, image.len(), moment)?;
         play_records::<K>(image, self.records, moment);
         Ok(())
-    }
-
-    // Sets the image to origins and acts on it with records 1 to `moment` in order. Refusals 1 to 4, 12, 14, 18.
-    pub fn replay(&self, image: &mut [K::State], moment: u32) -> Result<(), Refusal>
-        ensures answer { result ≡ told tt (replayed K.Kind.model (held self.now) image.old moment) }
-        ensures put { image.new ≡ kept image.old (replayed K.Kind.model (held self.now) image.old moment) }
-    {
-        self.remake_image(image, moment)
     }
 }

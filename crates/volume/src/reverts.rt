@@ -2,14 +2,11 @@
 ghost use Rattle.std.specs.Prelude.{◌≡◌, ◌<◌, ◌≤◌, length, IfOk, slice_index_or};
 ghost use Rattle.kind.specs.Answers.{kept};
 ghost use Rattle.volume.specs.Calls.{origin};
-ghost use Rattle.volume.specs.Memory.{held};
+ghost use Rattle.volume.specs.Memory.{held, KeepsLoans};
 ghost use Rattle.volume.specs.Reverts.{held_state, earlier_state, alike, needed, all_needed, put_back, put_all_back, taken_back, reverted, count_of};
 
 use crate::Volume;
 use crate::refusal::Refusal;
-use crate::sizes::check_memory;
-use journal::append::next_record;
-use journal::walk::span;
 use kind::Kind;
 
 // A copy of a cell's state.
@@ -28,8 +25,7 @@ impl<K: Kind> Volume<'_, '_, '_, '_, K> {
         requires paired { length self.now.heads.now ≡ length self.now.cells.now }
         ensures { result ≡ earlier_state K.Kind.model from to (held self.now) i }
     {
-        let head = self.heads[i];
-        let found = span::<K>(self.records, from, head, i as u16, from, to)?;
+        let found = self.chain(i).span(from, from, to)?;
         let state = state_at::<K>(self.cells, i);
         Ok(K::act(&found.change, &state))
     }
@@ -58,8 +54,7 @@ impl<K: Kind> Volume<'_, '_, '_, '_, K> {
             return Ok(0);
         }
         let change = K::difference(&state, &target);
-        let head = self.heads[i];
-        let _ = next_record::<K>(self.records, from + 1, head, i as u16, &change)?;
+        let _ = self.chain(i).next_record(from + 1, &change)?;
         Ok(1)
     }
 
@@ -84,10 +79,7 @@ impl<K: Kind> Volume<'_, '_, '_, '_, K> {
         requires few { length self.old.cells.now ≤ 4096 }
         requires paired { length self.old.heads.now ≡ length self.old.cells.now }
         ensures after { held self.new ≡ put_back K.Kind.model from to (held self.old) i }
-        ensures cells_same { self.new.cells.ghost_name ≡ self.old.cells.ghost_name }
-        ensures heads_same { self.new.heads.ghost_name ≡ self.old.heads.ghost_name }
-        ensures records_same { self.new.records.ghost_name ≡ self.old.records.ghost_name }
-        ensures count_same { self.new.count.ghost_name ≡ self.old.count.ghost_name }
+        ensures loans { KeepsLoans self.old self.new }
     {
         let Ok(target) = self.earlier(from, to, i) else {
             return;
@@ -103,30 +95,22 @@ impl<K: Kind> Volume<'_, '_, '_, '_, K> {
         requires few { length self.old.cells.now ≤ 4096 }
         requires paired { length self.old.heads.now ≡ length self.old.cells.now }
         ensures after { held self.new ≡ put_all_back K.Kind.model from to (held self.old) (length self.old.cells.now) }
-        ensures cells_same { self.new.cells.ghost_name ≡ self.old.cells.ghost_name }
-        ensures heads_same { self.new.heads.ghost_name ≡ self.old.heads.ghost_name }
-        ensures records_same { self.new.records.ghost_name ≡ self.old.records.ghost_name }
-        ensures count_same { self.new.count.ghost_name ≡ self.old.count.ghost_name }
+        ensures loans { KeepsLoans self.old self.new }
     {
         for i in 0..self.cells.len() {
             self.restore(from, to, i);
         }
     }
 
-    fn take_back(&mut self, moment: u32) -> Result<u32, Refusal>
-        ensures answer { result ≡ count_of (taken_back K.Kind.model (held self.old) moment) }
-        ensures after { held self.new ≡ kept (held self.old) (taken_back K.Kind.model (held self.old) moment) }
-        ensures cells_same { self.new.cells.ghost_name ≡ self.old.cells.ghost_name }
-        ensures heads_same { self.new.heads.ghost_name ≡ self.old.heads.ghost_name }
-        ensures records_same { self.new.records.ghost_name ≡ self.old.records.ghost_name }
-        ensures count_same { self.new.count.ghost_name ≡ self.old.count.ghost_name }
+    // Writes every cell that stands otherwise than at `moment` back to how it stood then, and answers the new count.
+    // Every cell, and then the space, is tried before anything changes. Refusals 1 to 4, 14, 18, 19.
+    #[tactic(auto, unfolding(crate::specs::Reverts::reverted))]
+    pub fn revert(&mut self, moment: u32) -> Result<u32, Refusal>
+        ensures answer { result ≡ count_of (reverted K.Kind.model (held self.old) moment) }
+        ensures after { held self.new ≡ kept (held self.old) (reverted K.Kind.model (held self.old) moment) }
+        ensures loans { KeepsLoans self.old self.new }
     {
-        check_memory(
-            self.cells.len(),
-            self.heads.len(),
-            self.records.len(),
-            *self.count,
-        )?;
+        self.check_memory()?;
         let count = *self.count;
         if moment > count {
             return Err(Refusal::Moment);
@@ -137,18 +121,5 @@ impl<K: Kind> Volume<'_, '_, '_, '_, K> {
         }
         self.restore_all(count, moment);
         Ok(*self.count)
-    }
-
-    // Writes every cell that stands otherwise than at `moment` back to how it stood then, and answers the new count.
-    // Every cell, and then the space, is tried before anything changes. Refusals 1 to 4, 14, 18, 19.
-    pub fn revert(&mut self, moment: u32) -> Result<u32, Refusal>
-        ensures answer { result ≡ count_of (reverted K.Kind.model (held self.old) moment) }
-        ensures after { held self.new ≡ kept (held self.old) (reverted K.Kind.model (held self.old) moment) }
-        ensures cells_same { self.new.cells.ghost_name ≡ self.old.cells.ghost_name }
-        ensures heads_same { self.new.heads.ghost_name ≡ self.old.heads.ghost_name }
-        ensures records_same { self.new.records.ghost_name ≡ self.old.records.ghost_name }
-        ensures count_same { self.new.count.ghost_name ≡ self.old.count.ghost_name }
-    {
-        self.take_back(moment)
     }
 }

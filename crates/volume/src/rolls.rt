@@ -1,5 +1,5 @@
 // Roll: an image, moved from one moment to another.
-ghost use Rattle.std.specs.Prelude.{◌≡◌, ◌^◌, ◌<◌, ◌≤◌, map, length, slice_index_or, slice_set};
+ghost use Rattle.std.specs.Prelude.{◌≡◌, ◌^◌, ◌<◌, ◌≤◌, map, length, slice_index, slice_index_or, slice_set};
 ghost use Rattle.std.specs.List.{range_with_len};
 ghost use Rattle.kind.specs.Answers.{each_below, told, kept};
 ghost use Rattle.volume.specs.Calls.{origin};
@@ -8,20 +8,32 @@ ghost use Rattle.volume.specs.Rolls.{across, swept, moved, rolled};
 
 use crate::Volume;
 use crate::refusal::Refusal;
-use crate::sizes::check_memory;
 use journal::faults::LadderFault;
-use journal::walk::{Stretch, span};
+use journal::walk::{Chain, Stretch};
 use kind::Kind;
 
 impl<K: Kind> Volume<'_, '_, '_, '_, K> {
+    // The records of cell `i`, as the log has them.
+    pub(crate) fn chain(&self, i: usize) -> Chain<'_, K>
+        requires there { i < length self.now.heads.now }
+        requires narrow { i < 2 ^ 16 }
+        ensures records { result.records.now ≡ self.now.records.now }
+        ensures cell { result.cell ≡ i }
+        ensures head { result.head ≡ slice_index self.now.heads.now i }
+    {
+        Chain {
+            records: self.records,
+            cell: i as u16,
+            head: self.heads[i],
+        }
+    }
+
     // The change of cell `i` from moment `a` to moment `b`.
     fn cell_span(&self, i: usize, a: u32, b: u32) -> Result<Stretch<K::Change>, LadderFault>
         requires { (i < length self.now.heads.now) × (i < 2 ^ 16) }
         ensures { result ≡ across K.Kind.model (held self.now) a b i }
     {
-        let head = self.heads[i];
-        let count = *self.count;
-        span::<K>(self.records, count, head, i as u16, a, b)
+        self.chain(i).span(*self.count, a, b)
     }
 
     // Tries the span of each cell; the fault of the lowest that has one.
@@ -55,16 +67,13 @@ impl<K: Kind> Volume<'_, '_, '_, '_, K> {
         }
     }
 
-    fn move_image(&self, image: &mut [K::State], a: u32, b: u32) -> Result<(), Refusal>
-        ensures answer { result ≡ told tt (moved K.Kind.model (held self.now) image.old a b) }
-        ensures put { image.new ≡ kept image.old (moved K.Kind.model (held self.now) image.old a b) }
+    // Acts on each state of the image with its cell's change from moment `a` to moment `b`. Refusals 1 to 4, 12, 14, 18.
+    #[tactic(auto, unfolding(crate::specs::Rolls::rolled))]
+    pub fn roll(&self, image: &mut [K::State], a: u32, b: u32) -> Result<(), Refusal>
+        ensures answer { result ≡ told tt (rolled K.Kind.model (held self.now) image.old a b) }
+        ensures put { image.new ≡ kept image.old (rolled K.Kind.model (held self.now) image.old a b) }
     {
-        check_memory(
-            self.cells.len(),
-            self.heads.len(),
-            self.records.len(),
-            *self.count,
-        )?;
+        self.check_memory()?;
         if image.len() != self.cells.len() {
             return Err(Refusal::Image);
         }
@@ -75,13 +84,5 @@ impl<K: Kind> Volume<'_, '_, '_, '_, K> {
         self.try_cells(image.len(), a, b)?;
         self.sweep(image, a, b);
         Ok(())
-    }
-
-    // Acts on each state of the image with its cell's change from moment `a` to moment `b`. Refusals 1 to 4, 12, 14, 18.
-    pub fn roll(&self, image: &mut [K::State], a: u32, b: u32) -> Result<(), Refusal>
-        ensures answer { result ≡ told tt (rolled K.Kind.model (held self.now) image.old a b) }
-        ensures put { image.new ≡ kept image.old (rolled K.Kind.model (held self.now) image.old a b) }
-    {
-        self.move_image(image, a, b)
     }
 }

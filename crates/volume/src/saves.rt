@@ -10,7 +10,6 @@ ghost use Rattle.volume.specs.Saves.{line_of, lines_of, laid_down, saved};
 use crate::Volume;
 use crate::refusal::Refusal;
 use crate::replays::try_records;
-use crate::sizes::check_memory;
 use file::forms::{write_header, write_record_at};
 use file::records::file_length;
 use journal::record::{Record, cell_of, place_of};
@@ -38,16 +37,13 @@ fn put_file<K: Kind>(cells: u16, records: &[Record<K::Change>], count: u32, area
 }
 
 impl<K: Kind> Volume<'_, '_, '_, '_, K> {
-    fn lay_down(&self, area: &mut [u8]) -> Result<usize, Refusal>
-        ensures answer { result ≡ length_of (laid_down K.Kind.model (held self.now) (length area.old)) }
-        ensures after { area.new ≡ area_after area.old (laid_down K.Kind.model (held self.now) (length area.old)) }
+    // Writes the volume's file to the front of `area` and answers its length. Refusals 1 to 4, 11, 18.
+    #[tactic(auto, unfolding(crate::specs::Saves::saved))]
+    pub fn save(&self, area: &mut [u8]) -> Result<usize, Refusal>
+        ensures answer { result ≡ length_of (saved K.Kind.model (held self.now) (length area.old)) }
+        ensures after { area.new ≡ area_after area.old (saved K.Kind.model (held self.now) (length area.old)) }
     {
-        check_memory(
-            self.cells.len(),
-            self.heads.len(),
-            self.records.len(),
-            *self.count,
-        )?;
+        self.check_memory()?;
         let cells = self.cells.len();
         let count = *self.count;
         let length = file_length::<K>(count);
@@ -57,13 +53,5 @@ impl<K: Kind> Volume<'_, '_, '_, '_, K> {
         try_records::<K>(self.records, cells, count)?;
         put_file::<K>(cells as u16, self.records, count, area);
         Ok(length)
-    }
-
-    // Writes the volume's file to the front of `area` and answers its length. Refusals 1 to 4, 11, 18.
-    pub fn save(&self, area: &mut [u8]) -> Result<usize, Refusal>
-        ensures answer { result ≡ length_of (saved K.Kind.model (held self.now) (length area.old)) }
-        ensures after { area.new ≡ area_after area.old (saved K.Kind.model (held self.now) (length area.old)) }
-    {
-        self.lay_down(area)
     }
 }

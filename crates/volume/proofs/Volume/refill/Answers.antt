@@ -4,6 +4,7 @@ use Rattle.volume.specs.Calls.{origin, emptied}
 use Rattle.volume.specs.Loads.{settled, reached}
 use Rattle.volume.specs.Memory.{held}
 use Rattle.volume.specs.Reverts.{count_of}
+use Rattle.volume.proofs.Loans.{along}
 use Rattle.volume.proofs.Takes.{all_in}
 use Rattle.volume.proofs.Volume.refill.Goals as goal
 
@@ -30,8 +31,5 @@ returns-in-Ok g c =
     record {
       answer = sym (ap count_of all);
       after = sym (ap (settled K (reached K f (emptied K m) c.args.count)) all);
-      cells_same = t.cells_same ∙ c.empty.ensures.cells_same;
-      heads_same = t.heads_same ∙ c.empty.ensures.heads_same;
-      records_same = t.records_same ∙ c.empty.ensures.records_same;
-      count_same = t.count_same ∙ c.empty.ensures.count_same;
+      loans = along c.empty.ensures.loans t.loans;
     }

@@ -1,5 +1,6 @@
 use Rattle.std.proofs.Common.{sym, ◌∙◌, arith}
 use Rattle.volume.specs.Memory.{held}
+use Rattle.volume.proofs.Loans.{along}
 use Rattle.volume.proofs.Restores.{still_sized, one_more_back}
 use Rattle.volume.proofs.Volume.restore_all.Goals as goal
 
@@ -11,8 +12,5 @@ restore-requires g c =
 pub loop-i-preserved : goal.loop-i-preserved
 loop-i-preserved g c = (
   one_more_back g.K.Kind.model c.args.from c.args.to (held c.args.self.now) (held c.loop-i.self) (held c.restore.new.self) c.loop-i.i c.loop-i.invariant.0 c.restore.ensures.after,
-  c.restore.ensures.cells_same ∙ c.loop-i.invariant.1,
-  c.restore.ensures.heads_same ∙ c.loop-i.invariant.2,
-  c.restore.ensures.records_same ∙ c.loop-i.invariant.3,
-  c.restore.ensures.count_same ∙ c.loop-i.invariant.4,
+  along c.loop-i.invariant.1 c.restore.ensures.loans,
 )

@@ -2,6 +2,7 @@ use Rattle.std.proofs.Common.{◌+◌, sym, ap, ◌∙◌, arith}
 use Rattle.kind.specs.Answers.{told}
 use Rattle.journal.proofs.Walks.{exit}
 use Rattle.volume.specs.Memory.{held}
+use Rattle.volume.proofs.Loans.{along}
 use Rattle.volume.proofs.Takes.{takes_more, takes_stop, takes_all}
 use Rattle.volume.proofs.Volume.take_records.Goals as goal
 
@@ -11,10 +12,7 @@ returns-in_err-take_record g c =
     record {
       answer = exit c.from_residual.result _ c.from_residual.ensures.1 ∙ sym (ap (told tt) s.0);
       after = s.1;
-      cells_same = c.take_record.ensures.cells_same ∙ c.loop-i.invariant.3;
-      heads_same = c.take_record.ensures.heads_same ∙ c.loop-i.invariant.4;
-      records_same = c.take_record.ensures.records_same ∙ c.loop-i.invariant.5;
-      count_same = c.take_record.ensures.count_same ∙ c.loop-i.invariant.6;
+      loans = along c.loop-i.invariant.3 c.take_record.ensures.loans;
     }
 
 pub loop-i-preserved : goal.loop-i-preserved
@@ -23,13 +21,10 @@ loop-i-preserved g c =
       s.0,
       s.1.1 ∙ c.loop-i.invariant.1 ∙ sym s.1.0,
       s.1.2 ∙ ap (λ n. n + 1) c.loop-i.invariant.2,
-      c.take_record.ensures.cells_same ∙ c.loop-i.invariant.3,
-      c.take_record.ensures.heads_same ∙ c.loop-i.invariant.4,
-      c.take_record.ensures.records_same ∙ c.loop-i.invariant.5,
-      c.take_record.ensures.count_same ∙ c.loop-i.invariant.6,
+      along c.loop-i.invariant.3 c.take_record.ensures.loans,
     )
 
 pub returns : goal.returns
 returns g c =
     let s = takes_all g.K.Kind.model c.args.file.now (held c.args.self.now) c.loop-i.i c.args.count (held c.loop-i.self) c.loop-i.invariant.0 (omega arith) in
-    record { answer = sym (ap (told tt) s.0); after = s.1; cells_same = c.loop-i.invariant.3; heads_same = c.loop-i.invariant.4; records_same = c.loop-i.invariant.5; count_same = c.loop-i.invariant.6 }
+    record { answer = sym (ap (told tt) s.0); after = s.1; loans = c.loop-i.invariant.3 }

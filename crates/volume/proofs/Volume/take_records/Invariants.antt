@@ -1,6 +1,6 @@
 use Rattle.std.proofs.Common.{◌≡◌, length, Ok}
 use Rattle.volume.specs.Loads.{took_to}
-use Rattle.volume.specs.Memory.{held}
+use Rattle.volume.specs.Memory.{held, KeepsLoans}
 use Rattle.volume.proofs.Volume.take_records.Given as goal
 
 abbrev pub invariant-loop-i : goal.invariant-loop-i
@@ -8,7 +8,4 @@ invariant-loop-i g l =
     (took_to g.K.Kind.model l.file (held l.initial.self) l.i ≡ Ok (held l.self))
     × (length l.self.heads.now ≡ length l.self.cells.now)
     × (l.self.count.now ≡ l.i)
-    × (l.self.cells.ghost_name ≡ l.initial.self.cells.ghost_name)
-    × (l.self.heads.ghost_name ≡ l.initial.self.heads.ghost_name)
-    × (l.self.records.ghost_name ≡ l.initial.self.records.ghost_name)
-    × (l.self.count.ghost_name ≡ l.initial.self.count.ghost_name)
+    × KeepsLoans l.initial.self l.self
