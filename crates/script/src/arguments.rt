@@ -3,7 +3,6 @@ ghost use Rattle.std.specs.Prelude.{◌≡◌, IfErr};
 ghost use Rattle.std.specs.Str.Parse.{ParsesSigned};
 ghost use Rattle.std.specs.Result.{result_map_both};
 ghost use Rattle.script.specs.Arguments.{word as word_of, number as number_of, decimal, ended, number_or_none, only_word, only_number, two_numbers, number_and_word};
-ghost use Rattle.script.specs.Line.{words};
 ghost use Rattle.script.specs.declared.error.ScriptError.TheVariants.{Number};
 ghost use Rattle.std.specs.Int.{w32};
 
@@ -28,21 +27,21 @@ pub fn signed(w: &str) -> Result<i32, ScriptError>
 impl<'a> Words<'a> {
     // The next word.
     pub(crate) fn word(&mut self) -> Result<&'a str, ScriptError>
-        ensures { result_map_both (λ w. (w.now, words self.new.rest.now)) (λ e. e) result ≡ word_of (words self.old.rest.now) }
+        ensures { result_map_both (λ w. (w.now, self.new)) (λ e. e) result ≡ word_of self.old }
     {
         self.next().ok_or(ScriptError::Missing)
     }
 
     // The number that the next word writes.
     pub(crate) fn number(&mut self) -> Result<u32, ScriptError>
-        ensures { result_map_both (λ n. (n, words self.new.rest.now)) (λ e. e) result ≡ number_of (words self.old.rest.now) }
+        ensures { result_map_both (λ n. (n, self.new)) (λ e. e) result ≡ number_of self.old }
     {
         unsigned(self.word()?)
     }
 
     // No word is left.
     pub(crate) fn end(mut self) -> Result<(), ScriptError>
-        ensures { result ≡ ended (words self.entry.rest.now) }
+        ensures { result ≡ ended self.entry }
     {
         // not `ok_or`: here a word is the error
         match self.next() {
@@ -53,7 +52,7 @@ impl<'a> Words<'a> {
 
     // A number that may be left out, and nothing after it.
     pub(crate) fn number_or_none(mut self) -> Result<Option<u32>, ScriptError>
-        ensures { result ≡ number_or_none (words self.entry.rest.now) }
+        ensures { result ≡ number_or_none self.entry }
     {
         let n = self.next().map(unsigned).transpose()?;
         self.end()?;
@@ -62,7 +61,7 @@ impl<'a> Words<'a> {
 
     // A word, and nothing after it.
     pub(crate) fn only_word(mut self) -> Result<&'a str, ScriptError>
-        ensures { result_map_both (λ w. w.now) (λ e. e) result ≡ only_word (words self.entry.rest.now) }
+        ensures { result_map_both (λ w. w.now) (λ e. e) result ≡ only_word self.entry }
     {
         let w = self.word()?;
         self.end()?;
@@ -70,7 +69,7 @@ impl<'a> Words<'a> {
     }
 
     pub(crate) fn only_number(mut self) -> Result<u32, ScriptError>
-        ensures { result ≡ only_number (words self.entry.rest.now) }
+        ensures { result ≡ only_number self.entry }
     {
         let n = self.number()?;
         self.end()?;
@@ -78,7 +77,7 @@ impl<'a> Words<'a> {
     }
 
     pub(crate) fn two_numbers(mut self) -> Result<(u32, u32), ScriptError>
-        ensures { result ≡ two_numbers (words self.entry.rest.now) }
+        ensures { result ≡ two_numbers self.entry }
     {
         let m = self.number()?;
         let n = self.number()?;
@@ -87,7 +86,7 @@ impl<'a> Words<'a> {
     }
 
     pub(crate) fn number_and_word(mut self) -> Result<(u32, &'a str), ScriptError>
-        ensures { result_map_both (λ p. (p.0, p.1.now)) (λ e. e) result ≡ number_and_word (words self.entry.rest.now) }
+        ensures { result_map_both (λ p. (p.0, p.1.now)) (λ e. e) result ≡ number_and_word self.entry }
     {
         let n = self.number()?;
         let w = self.word()?;
