@@ -9,7 +9,8 @@ ghost use Rattle.std.specs.Int.{w32};
 use crate::error::ScriptError;
 use crate::line::Words;
 
-// The number that a word writes in decimal.
+// The number that a word writes in decimal. It and `signed` stay two: each clause speaks of its own type, and a common body
+// would be as long.
 pub fn unsigned(w: &str) -> Result<u32, ScriptError>
     ensures { result ≡ decimal w.now }
 {
@@ -68,6 +69,7 @@ impl<'a> Words<'a> {
         Ok(w)
     }
 
+    // A number, and nothing after it.
     pub(crate) fn only_number(mut self) -> Result<u32, ScriptError>
         ensures { result ≡ only_number self.entry }
     {
@@ -76,6 +78,7 @@ impl<'a> Words<'a> {
         Ok(n)
     }
 
+    // Two numbers, and nothing after them.
     pub(crate) fn two_numbers(mut self) -> Result<(u32, u32), ScriptError>
         ensures { result ≡ two_numbers self.entry }
     {
@@ -85,6 +88,7 @@ impl<'a> Words<'a> {
         Ok((m, n))
     }
 
+    // A number and a word, and nothing after them.
     pub(crate) fn number_and_word(mut self) -> Result<(u32, &'a str), ScriptError>
         ensures { result_map_both (λ p. (p.0, p.1.now)) (λ e. e) result ≡ number_and_word self.entry }
     {

@@ -48,6 +48,7 @@ pub fn read_exact(text: &str, out: &mut [u8]) -> Result<(), ScriptError>
     if t.len() % 2 != 0 || t.len() / 2 != out.len() || !all_digits(t) {
         return Err(ScriptError::Hex);
     }
+    // by an index: with `zip` or `enumerate` over `chunks_exact` it did not prove what the loop writes
     for i in 0..out.len() {
         out[i] = value(t[2 * i]) * 16 + value(t[2 * i + 1]);
     }

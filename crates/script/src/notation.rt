@@ -48,15 +48,15 @@ pub trait Notation: Kind {
         ensures refused { IfErr result (λ e. e ≡ misread) };
 
     // plain values of zero bytes alone
-    ghost blank_state: { Self.State };
+    ghost state_of_zeros: { Self.State };
 
-    ghost blank_change: { Self.Change };
+    ghost change_of_zeros: { Self.Change };
 
     fn zero_state() -> Self::State
-        ensures { result ≡ blank_state };
+        ensures { result ≡ state_of_zeros };
 
     fn zero_change() -> Self::Change
-        ensures { result ≡ blank_change };
+        ensures { result ≡ change_of_zeros };
 }
 
 // The N bytes that a word writes in hexadecimal.
@@ -83,6 +83,7 @@ fn hex_form<F: FnOnce(&mut [u8]) -> bool>(
     hexadecimal::render(heap, &form)
 }
 
+// Two functions of one line: which of the two forms is written is all that each says.
 fn hex_state<K: Kind>(heap: Global, s: &K::State) -> Result<String, AllocError>
     ensures { IfOk result (λ t. string_bytes t ≡ state_hex K.Kind.model s.now) }
 {
@@ -95,6 +96,7 @@ fn hex_change<K: Kind>(heap: Global, f: &K::Change) -> Result<String, AllocError
     hex_form(heap, K::width(), |form| K::write_change(f, form))
 }
 
+// Blocks and bank maps differ in a type and a length alone, and a line that names its own is all that is in each method.
 impl Notation for Block {
     ghost stated = { state_hex block };
 
@@ -122,9 +124,9 @@ impl Notation for Block {
         plain_bytes(word)
     }
 
-    ghost blank_state = { replicate 128 0 };
+    ghost state_of_zeros = { replicate 128 0 };
 
-    ghost blank_change = { replicate 128 0 };
+    ghost change_of_zeros = { replicate 128 0 };
 
     fn zero_state() -> [u8; 128] {
         [0; 128]
@@ -162,9 +164,9 @@ impl Notation for Tally {
         arguments::signed(word)
     }
 
-    ghost blank_state = { pos 0 };
+    ghost state_of_zeros = { pos 0 };
 
-    ghost blank_change = { pos 0 };
+    ghost change_of_zeros = { pos 0 };
 
     fn zero_state() -> i32 {
         0
@@ -202,9 +204,9 @@ impl Notation for BankMap {
         plain_bytes(word)
     }
 
-    ghost blank_state = { replicate 16 0 };
+    ghost state_of_zeros = { replicate 16 0 };
 
-    ghost blank_change = { replicate 16 0 };
+    ghost change_of_zeros = { replicate 16 0 };
 
     fn zero_state() -> [u8; 16] {
         [0; 16]
