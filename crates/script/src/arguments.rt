@@ -1,5 +1,5 @@
 // The arguments of a command, read one after the other from the words that follow its name.
-ghost use Rattle.std.specs.Prelude.{◌≡◌, IfErr};
+ghost use Rattle.std.specs.Prelude.{◌≡◌, IfErr, drop};
 ghost use Rattle.std.specs.Str.Parse.{ParsesSigned};
 ghost use Rattle.std.specs.Result.{result_map_both};
 ghost use Rattle.script.specs.Arguments.{word as word_of, number as number_of, decimal, ended, number_or_none, only_word, only_number, two_numbers, number_and_word};
@@ -28,14 +28,16 @@ pub fn signed(w: &str) -> Result<i32, ScriptError>
 impl<'a> Words<'a> {
     // The next word.
     pub(crate) fn word(&mut self) -> Result<&'a str, ScriptError>
-        ensures { result_map_both (λ w. (w.now, self.new)) (λ e. e) result ≡ word_of self.old }
+        ensures read { result_map_both (λ w. (w.now, self.new)) (λ e. e) result ≡ word_of self.old }
+        ensures left { self.new ≡ drop 1 self.old }
     {
         self.next().ok_or(ScriptError::Missing)
     }
 
-    // The number that the next word writes.
+    // The number that the next word writes. The word counts as read, also where it writes none.
     pub(crate) fn number(&mut self) -> Result<u32, ScriptError>
-        ensures { result_map_both (λ n. (n, self.new)) (λ e. e) result ≡ number_of self.old }
+        ensures read { result_map_both (λ n. (n, self.new)) (λ e. e) result ≡ number_of self.old }
+        ensures left { self.new ≡ drop 1 self.old }
     {
         unsigned(self.word()?)
     }
