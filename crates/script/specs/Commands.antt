@@ -1,5 +1,5 @@
 -- The command that a line has: its name, and what its arguments have to be.
-use Rattle.std.specs.Prelude.{cond, List, [], ◌∷◌, Some, None, Ok, Err, codes, Option, Result, ◌≢◌}
+use Rattle.std.specs.Prelude.{◌≡◌, cond, List, [], ◌∷◌, Some, None, Ok, Err, codes, Option, ok_or, Result, MatchResult, ◌≢◌}
 use Rattle.std.specs.Borrow.{Bor}
 use Rattle.kind.specs.Answers.{and_then}
 use Rattle.std.specs.Str.{bytes_eq}
@@ -166,6 +166,11 @@ verb_in (v ∷ vs) w = cond (bytes_eq w (spelling v)) (Some v) (verb_in vs w)
 
 unfoldable pub verb_of : Text → Option Verb
 verb_of w = verb_in verbs w
+
+-- r is the verb that w spells, or that it spells none
+pub record IsVerb (w : Text) (r : Result Verb ScriptError) : Type 0 where
+  pub read : r ≡ ok_or (verb_of w) Unknown
+  pub spelled : MatchResult r (λ v. w ≡ spelling v) (λ _. NoVerb w)
 
 abbrev pub with_verb : Option Verb → List Text → Made
 with_verb None ws = Err Unknown

@@ -1,28 +1,20 @@
 // What is wrong with a line of a script.
-use std::fmt;
+use thiserror::Error;
 
-#[derive(Clone, Copy, Debug, PartialEq, Eq)]
+#[derive(Clone, Copy, Debug, PartialEq, Eq, Error)]
 pub enum ScriptError {
     // the line has no word
+    #[error("blank line")]
     Blank,
     // its first word, or the word that says which part, names no command
+    #[error("unknown command")]
     Unknown,
+    #[error("missing argument")]
     Missing,
+    #[error("too many arguments")]
     Extra,
+    #[error("not a number")]
     Number,
+    #[error("not hexadecimal")]
     Hex,
-}
-
-impl fmt::Display for ScriptError {
-    fn fmt<W: fmt::Write>(&self, f: &mut fmt::Formatter<W>) -> fmt::Result {
-        let text = match self {
-            ScriptError::Blank => "blank line",
-            ScriptError::Unknown => "unknown command",
-            ScriptError::Missing => "missing argument",
-            ScriptError::Extra => "too many arguments",
-            ScriptError::Number => "not a number",
-            ScriptError::Hex => "not hexadecimal",
-        };
-        f.write_str(text)
-    }
 }

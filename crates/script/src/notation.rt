@@ -1,15 +1,18 @@
 // How a script writes the states and changes of each kind: tallies in decimal, the others in hexadecimal.
-ghost use Rattle.std.specs.Prelude.{◌≡◌, ℕ, List, length, IfOk, string_bytes, Result};
+ghost use Rattle.std.specs.Prelude.{◌≡◌, ℕ, Bool, List, replicate, pos, IfOk, IfErr, string_bytes, Result};
+ghost use Rattle.std.specs.Fn.{FnOnceReturnsAtMut};
 ghost use Rattle.kind.specs.Blocks.{block};
 ghost use Rattle.kind.specs.BankMaps.{bank_map};
 ghost use Rattle.std.specs.Fmt.{signed_decimal};
 ghost use Rattle.std.specs.Str.Parse.{ParsesSigned};
 ghost use Rattle.script.specs.declared.error.ScriptError.{ScriptError};
+ghost use Rattle.script.specs.declared.error.ScriptError.TheVariants.{Hex, Number};
 ghost use Rattle.std.specs.Int.{w32};
+ghost use Rattle.script.specs.Hex.{hex_of};
 ghost use Rattle.script.specs.Notations.{state_hex, change_hex, ReadsHex};
 
 use crate::error::ScriptError;
-use crate::{arguments, hex};
+use crate::{arguments, hexadecimal};
 use kind::Kind;
 use kind::bank_map::BankMap;
 use kind::block::Block;
@@ -33,68 +36,67 @@ pub trait Notation: Kind {
 
     ghost reads_change: { List ℕ → Result Self.Change ScriptError → Type 0 };
 
+    // the error of a word that is read as none
+    ghost misread: { ScriptError };
+
     fn parse_state(word: &str) -> Result<Self::State, ScriptError>
-        ensures { reads_state word.now result };
+        ensures read { reads_state word.now result }
+        ensures refused { IfErr result (λ e. e ≡ misread) };
 
     fn parse_change(word: &str) -> Result<Self::Change, ScriptError>
-        ensures { reads_change word.now result };
+        ensures read { reads_change word.now result }
+        ensures refused { IfErr result (λ e. e ≡ misread) };
 
     // plain values of zero bytes alone
-    fn zero_state() -> Self::State;
+    ghost state_of_zeros: { Self.State };
 
-    fn zero_change() -> Self::Change;
+    ghost change_of_zeros: { Self.Change };
+
+    fn zero_state() -> Self::State
+        ensures { result ≡ state_of_zeros };
+
+    fn zero_change() -> Self::Change
+        ensures { result ≡ change_of_zeros };
 }
 
-// A block of 128 bytes that a word writes in hexadecimal.
-fn plain_block(word: &str) -> Result<[u8; 128], ScriptError>
-    ensures { ReadsHex 128 word.now result }
+// The N bytes that a word writes in hexadecimal.
+fn plain_bytes<const N: usize>(word: &str) -> Result<[u8; N], ScriptError>
+    ensures read { ReadsHex N word.now result }
+    ensures refused { IfErr result (λ e. e ≡ Hex) }
 {
-    let mut bytes = [0; 128];
-    hex::read_exact(word, &mut bytes)?;
+    let mut bytes = [0; N];
+    hexadecimal::read_exact(word, &mut bytes)?;
     Ok(bytes)
 }
 
-// Sixteen bytes that a word writes in hexadecimal.
-fn plain_map(word: &str) -> Result<[u8; 16], ScriptError>
-    ensures { ReadsHex 16 word.now result }
+// The `width` bytes that `write` lays down, in hexadecimal.
+fn hex_form<F: FnOnce(&mut [u8]) -> bool>(
+    heap: Global,
+    width: usize,
+    write: F,
+) -> Result<String, AllocError>
+    requires { F.IsAlwaysCallable write }
+    ensures { IfOk result (λ t. (form : List ℕ) × (whole : Bool) × FnOnceReturnsAtMut F.FnOnce write (replicate width 0) whole form × (string_bytes t ≡ hex_of form)) }
 {
-    let mut bytes = [0; 16];
-    hex::read_exact(word, &mut bytes)?;
-    Ok(bytes)
+    let mut form = vec![in heap; 0u8; width]?;
+    let _whole = write(&mut form);
+    hexadecimal::render(heap, &form)
 }
 
-// The form of a state in hexadecimal; `form` is a place for its bytes.
-fn state_in<K: Kind>(heap: Global, s: &K::State, form: &mut [u8]) -> Result<String, AllocError>
-    requires { length form.old ≡ K.Kind.model.width }
-    ensures { IfOk result (λ t. string_bytes t ≡ state_hex K.Kind.model s.now) }
-{
-    let _whole = K::write_state(s, form);
-    hex::render(heap, form)
-}
-
+// Two functions of one line: which of the two forms is written is all that each says.
 fn hex_state<K: Kind>(heap: Global, s: &K::State) -> Result<String, AllocError>
     ensures { IfOk result (λ t. string_bytes t ≡ state_hex K.Kind.model s.now) }
 {
-    let mut form = vec![in heap; 0u8; K::width()]?;
-    state_in::<K>(heap, s, &mut form)
-}
-
-// The form of a change in hexadecimal; `form` is a place for its bytes.
-fn change_in<K: Kind>(heap: Global, f: &K::Change, form: &mut [u8]) -> Result<String, AllocError>
-    requires { length form.old ≡ K.Kind.model.width }
-    ensures { IfOk result (λ t. string_bytes t ≡ change_hex K.Kind.model f.now) }
-{
-    let _whole = K::write_change(f, form);
-    hex::render(heap, form)
+    hex_form(heap, K::width(), |form| K::write_state(s, form))
 }
 
 fn hex_change<K: Kind>(heap: Global, f: &K::Change) -> Result<String, AllocError>
     ensures { IfOk result (λ t. string_bytes t ≡ change_hex K.Kind.model f.now) }
 {
-    let mut form = vec![in heap; 0u8; K::width()]?;
-    change_in::<K>(heap, f, &mut form)
+    hex_form(heap, K::width(), |form| K::write_change(f, form))
 }
 
+// Blocks and bank maps differ in a type and a length alone, and a line that names its own is all that is in each method.
 impl Notation for Block {
     ghost stated = { state_hex block };
 
@@ -112,13 +114,19 @@ impl Notation for Block {
 
     ghost reads_change = { ReadsHex 128 };
 
+    ghost misread = { Hex };
+
     fn parse_state(word: &str) -> Result<[u8; 128], ScriptError> {
-        plain_block(word)
+        plain_bytes(word)
     }
 
     fn parse_change(word: &str) -> Result<[u8; 128], ScriptError> {
-        plain_block(word)
+        plain_bytes(word)
     }
+
+    ghost state_of_zeros = { replicate 128 0 };
+
+    ghost change_of_zeros = { replicate 128 0 };
 
     fn zero_state() -> [u8; 128] {
         [0; 128]
@@ -146,6 +154,8 @@ impl Notation for Tally {
 
     ghost reads_change = { ParsesSigned w32 10 };
 
+    ghost misread = { Number };
+
     fn parse_state(word: &str) -> Result<i32, ScriptError> {
         arguments::signed(word)
     }
@@ -153,6 +163,10 @@ impl Notation for Tally {
     fn parse_change(word: &str) -> Result<i32, ScriptError> {
         arguments::signed(word)
     }
+
+    ghost state_of_zeros = { pos 0 };
+
+    ghost change_of_zeros = { pos 0 };
 
     fn zero_state() -> i32 {
         0
@@ -180,13 +194,19 @@ impl Notation for BankMap {
 
     ghost reads_change = { ReadsHex 16 };
 
+    ghost misread = { Hex };
+
     fn parse_state(word: &str) -> Result<[u8; 16], ScriptError> {
-        plain_map(word)
+        plain_bytes(word)
     }
 
     fn parse_change(word: &str) -> Result<[u8; 16], ScriptError> {
-        plain_map(word)
+        plain_bytes(word)
     }
+
+    ghost state_of_zeros = { replicate 16 0 };
+
+    ghost change_of_zeros = { replicate 16 0 };
 
     fn zero_state() -> [u8; 16] {
         [0; 16]
