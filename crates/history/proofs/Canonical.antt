@@ -1,6 +1,6 @@
 -- The memory that a history leaves, up to what the cells are taken for and to what lies beyond the count. Assumes nothing.
 use Rattle.std.proofs.Common.{◌≡◌, ℕ, ◌<◌, ◌≤◌, not, ◌||◌, eqb, ltb, ◌⊎◌, List, [], ◌∷◌, ◌++◌, length, get_or, replicate, Ok, Err, sym, refl, ap, ◌∙◌, subst, inl, inr, arith}
-use Rattle.std.proofs.lemmas.List.{get_or-replicate, length-replicate}
+use Rattle.std.proofs.lemmas.List.{get_or-replicate, length-replicate, take_all}
 use Rattle.std.proofs.lemmas.Bool.{cases_Bool, cond-true, cond-false, or_from, or_parts, eqb-true, eqb-false, eq-eqb, ne_eqb, le-ltb, ltb-false, not-false, not_from_true}
 use Rattle.kind.specs.Answers.{and_then, refuse_if}
 use Rattle.kind.specs.Model.{Model, Laws}
@@ -11,9 +11,10 @@ use Rattle.volume.specs.Memory.{Memory}
 use Rattle.volume.specs.Sizes.{sized, sound}
 use Rattle.volume.specs.declared.refusal.Refusal.{Refusal}
 use Rattle.volume.specs.declared.refusal.Refusal.TheVariants.{Cells, Heads, Capacity, Count}
-use Rattle.history.specs.History.{History, Entry, count, latest}
+use Rattle.history.specs.History.{History, Entry, count, latest, stood}
 use Rattle.history.specs.Promises.{fresh}
-use Rattle.history.proofs.Entered.{writes}
+use Rattle.history.proofs.Entered.{writes, writes_length}
+use Rattle.history.proofs.Results.{then_ok, test_ok}
 
 -- sizes that are accepted
 pub record Sizes (cells heads capacity : ℕ) : Type 0 where
@@ -59,6 +60,18 @@ sized_cases a b c =
           ])
     ]
 
+pub sized_only : (a b c : ℕ) (x : Unit {0}) → sized a b c ≡ Ok x → Sizes a b c
+sized_only a b c x e =
+    elim (sized_cases a b c) [
+      | inl z ↦ z
+      | inr bad ↦ (let never : Err bad.0 ≡ Ok x = sym bad.1 ∙ e in let z : ◌≡◌ {A = ℕ} 0 1 = cc in absurd (omega arith))
+    ]
+
+pub sound_only : (a b c n : ℕ) (x : Unit {0}) → sound a b c n ≡ Ok x → Sizes a b c × (n ≤ c)
+sound_only a b c n x e =
+    let (y, p, q) = then_ok (sized a b c) (λ _. refuse_if (ltb c n) Count (Ok tt)) x e in
+    (sized_only a b c y p, ltb-false c n (test_ok (ltb c n) Count (Ok tt) x q).0)
+
 -- every entry is of one of n cells
 abbrev pub Owned : {S : Type 0} → ℕ → List (Entry S) → Type 0
 Owned n [] = Unit {0}
@@ -86,6 +99,13 @@ module _ {PS PC : Type 0} (K : Model PS PC) where
 
   pub sound_is : {h : History K.State} {v : Memory PS PC} → Canonical h v → sound (length v.cells) (length v.heads) (length v.records) v.count ≡ Ok tt
   sound_is {h} {v} C = sound_ok C.sizes (omega (arith, C.counts, C.fits, C.all_records))
+
+  pub writes_few : {h : History K.State} {v : Memory PS PC} → Canonical h v → length (writes K h.entries) ≤ 65535
+  writes_few {h} {v} C = omega (arith, writes_length K h.entries, C.fits, C.all_records, C.sizes.few_records)
+
+  -- the present
+  pub present : (h : History K.State) (c : ℕ) → stood K h c (count h) ≡ latest K.origin c h.entries
+  present h c = ap (latest K.origin c) (take_all (count h) h.entries (omega arith))
 
   -- what a format leaves
   pub blank_canonical : Laws K → (m : Memory PS PC) → Sizes (length m.cells) (length m.heads) (length m.records) →

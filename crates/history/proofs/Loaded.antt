@@ -24,9 +24,9 @@ use Rattle.history.specs.Calls.{Reply, counted, refused, reply, load, run, refil
 use Rattle.history.specs.Files.{entry_read, entries_read, header_read}
 use Rattle.history.specs.History.{History, Entry, count, appended, latest, last_number}
 use Rattle.history.specs.Promises.{fresh}
-use Rattle.history.proofs.Canonical.{Sizes, sized_ok, Canonical, blank_canonical, empty_canonical}
+use Rattle.history.proofs.Canonical.{Sizes, sized_ok, sized_only, Canonical, blank_canonical, empty_canonical}
 use Rattle.history.proofs.Entered.{writes_head}
-use Rattle.history.proofs.Rebuilt.{then_ok, test_ok, as_ok, sized_only}
+use Rattle.history.proofs.Results.{then_ok, test_ok, as_ok}
 use Rattle.history.proofs.Written.{moved, tried_taken, after, write_canonical}
 
 -- the tests that an accepted header passed

@@ -1,8 +1,8 @@
 -- What replay answers on the memory that a history leaves. Assumes nothing.
-use Rattle.std.proofs.Common.{◌≡◌, ℕ, zero, suc, ◌+◌, ◌<◌, ◌≤◌, Bool, cond, not, eqb, ltb, leb, List, [], ◌∷◌, map, length, get_or, take, set, Ok, Err, Result, sym, ap, ◌∙◌, inl, inr, arith}
+use Rattle.std.proofs.Common.{◌≡◌, ℕ, zero, suc, ◌+◌, ◌<◌, ◌≤◌, Bool, cond, not, eqb, ltb, leb, List, [], ◌∷◌, map, length, get_or, take, set, Ok, Err, Result, sym, refl, ap, ◌∙◌, inl, inr, arith}
 use Rattle.std.proofs.lemmas.List.FromFn.{length-map-range_with_len, get_or-map-range_with_len}
 use Rattle.std.proofs.lemmas.List.{ext_get_or, get_or-map, length-map, length-set, length-replicate, get_or-replicate, get_or-set_same, get_or-set_other}
-use Rattle.std.proofs.lemmas.Bool.{cases_eq, cases_lt, cond-true, cond-false, eq-eqb, ne_eqb, lt-ltb, le-ltb, lt-leb, not_from_true, not_from_false}
+use Rattle.std.proofs.lemmas.Bool.{cases_eq, cond-true, cond-false, eq-eqb, eqb-true, ne_eqb, le-ltb, ltb-false, lt-leb, not_from_true, not-false}
 use Rattle.kind.specs.Answers.{and_then, each_below, refuse_if, refused_as}
 use Rattle.kind.specs.Model.{Model, Laws}
 use Rattle.kind.proofs.Tried.{each_ok}
@@ -21,6 +21,7 @@ use Rattle.history.specs.Promises.{Replays}
 use Rattle.history.proofs.Canonical.{Canonical, sound_is}
 use Rattle.history.proofs.Entered.{latest_append}
 use Rattle.history.proofs.Nth.{Nth, nth}
+use Rattle.history.proofs.Results.{reply_if}
 
 module _ {PS PC : Type 0} (K : Model PS PC) (L : Laws K) {h : History K.State} {v : Memory PS PC} (C : Canonical K h v) where
   abbrev pub played_up : ℕ → List PS
@@ -82,47 +83,38 @@ module _ {PS PC : Type 0} (K : Model PS PC) (L : Laws K) {h : History K.State} {
     tries n = and_then (refused_as Ladder (each_below (cell_known K n v.records) m)) (λ _. Ok (played_to K n v.records m))
 
     abbrev odd? : Bool
-    odd? = not (eqb (length im) (length v.cells))
+    odd? = not (eqb (length im) h.cells)
 
-    checked : replayed K v im m ≡ refuse_if odd? Image (refuse_if (ltb v.count m) Moment (tries (length im)))
+    abbrev timed : Result (List PS) Refusal
+    timed = refuse_if (ltb (count h) m) Moment (tries (length im))
+
+    checked : replayed K v im m ≡ refuse_if odd? Image timed
     unfolding replayed
-    checked = ap (λ r. and_then r (λ _. refuse_if odd? Image (refuse_if (ltb v.count m) Moment (tries (length im))))) (sound_is K C)
+    checked =
+        ap (λ r. and_then r (λ _. refuse_if (not (eqb (length im) (length v.cells))) Image (refuse_if (ltb v.count m) Moment (tries (length im))))) (sound_is K C)
+        ∙ ap (λ n. refuse_if (not (eqb (length im) n)) Image (refuse_if (ltb v.count m) Moment (tries (length im)))) C.all_cells
+        ∙ ap (λ n. refuse_if odd? Image (refuse_if (ltb n m) Moment (tries (length im)))) C.counts
 
-    replay_odd : (length im ≡ h.cells → ⊥) → replayed K v im m ≡ Err Image
-    replay_odd n =
-        checked ∙ cond-true odd? (Err Image) (refuse_if (ltb v.count m) Moment (tries (length im)))
-        (not_from_false (eqb (length im) (length v.cells)) (ne_eqb (length im) (length v.cells) (λ e. n (e ∙ C.all_cells))))
-
-    module _ (even : length im ≡ h.cells) where
-      replay_even : replayed K v im m ≡ refuse_if (ltb (count h) m) Moment (tries h.cells)
-      replay_even =
-          checked ∙ cond-false odd? (Err Image) (refuse_if (ltb v.count m) Moment (tries (length im)))
-          (not_from_true (eqb (length im) (length v.cells)) (eq-eqb (length im) (length v.cells) (even ∙ sym C.all_cells)))
-          ∙ ap (λ n. refuse_if (ltb n m) Moment (tries (length im))) C.counts ∙ ap (λ n. refuse_if (ltb (count h) m) Moment (tries n)) even
-
-      pub replay_late : count h < m → replayed K v im m ≡ Err Moment
-      replay_late late = replay_even ∙ cond-true (ltb (count h) m) (Err Moment) (tries h.cells) (lt-ltb (count h) m late)
-
-      pub replay_made : m ≤ count h → replayed K v im m ≡ Ok (played_up m)
-      replay_made l =
-          replay_even ∙ cond-false (ltb (count h) m) (Err Moment) (tries h.cells) (le-ltb (count h) m l)
-          ∙ ap (λ r. and_then (refused_as Ladder r) (λ _. Ok (played_up m))) (known m l)
+    made : length im ≡ h.cells → m ≤ count h → tries (length im) ≡ Ok (played_up m)
+    made even l = ap tries even ∙ ap (λ r. and_then (refused_as Ladder r) (λ _. Ok (played_up m))) (known m l)
 
     pub replay_told : replied K v (replay im m) ≡ predicted K h (replay im m)
     replay_told =
-        let shown : List PS → Reply K.State K.Change = λ ss. states (map K.state ss) in
+        let shown : Result (List PS) Refusal → Reply K.State K.Change = reply (λ ss. states (map K.state ss)) in
         let there : Reply K.State K.Change = states (image K h m) in
-        let rest : Reply K.State K.Change = cond (ltb (count h) m) (refused Moment) there in
-        let bad? : Bool = not (eqb (length im) h.cells) in
-        elim (cases_eq (length im) h.cells) [
-          | inr n ↦ ap (reply shown) (replay_odd n) ∙ sym (cond-true bad? (refused Image) rest (not_from_false (eqb (length im) h.cells) (ne_eqb (length im) h.cells n)))
-          | inl even ↦
-              elim (cases_lt (count h) m) [
-                | inl late ↦ ap (reply shown) (replay_late even late) ∙ sym (cond-true (ltb (count h) m) (refused Moment) there (lt-ltb (count h) m late))
-                | inr l ↦ ap (reply shown) (replay_made even l) ∙ ap (λ ss. states ss) (played_stands m l) ∙ sym (cond-false (ltb (count h) m) (refused Moment) there (le-ltb (count h) m l))
-              ]
-              ∙ sym (cond-false bad? (refused Image) rest (not_from_true (eqb (length im) h.cells) (eq-eqb (length im) h.cells even)))
-        ]
+        ap shown checked
+        ∙ reply_if shown odd? Image timed (cond (ltb (count h) m) (refused Moment) there) refl
+        (λ t. reply_if shown (ltb (count h) m) Moment (tries (length im)) there refl
+        (λ t'.
+        let low : m ≤ count h = ltb-false (count h) m t' in
+        ap shown (made (eqb-true (length im) h.cells (not-false (eqb (length im) h.cells) t)) low) ∙ ap (λ ss. states ss) (played_stands m low)))
 
     pub replays_there : length im ≡ h.cells → m ≤ count h → Replays K h v im m
-    replays_there even l = record { made = played_up m; answered = replay_made even l; there = played_stands m l }
+    replays_there even l =
+        record {
+          made = played_up m;
+          answered =
+              checked ∙ cond-false odd? (Err Image) timed (not_from_true (eqb (length im) h.cells) (eq-eqb (length im) h.cells even))
+              ∙ cond-false (ltb (count h) m) (Err Moment) (tries (length im)) (le-ltb (count h) m l) ∙ made even l;
+          there = played_stands m l;
+        }

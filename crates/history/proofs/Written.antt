@@ -11,10 +11,12 @@ use Rattle.logs.specs.Writes.{Write, head_of, log_of}
 use Rattle.logs.proofs.Proved.{never_refused_lem, head_moves_lem}
 use Rattle.volume.specs.Calls.{origin, difference, logged, formatted, written, emptied}
 use Rattle.volume.specs.Memory.{Memory, memory}
+use Rattle.volume.specs.Sizes.{sized}
 use Rattle.volume.specs.declared.refusal.Refusal.{Refusal}
 use Rattle.volume.specs.declared.refusal.Refusal.TheVariants.{Cell, Full, Ladder}
 use Rattle.history.specs.History.{History, Entry, count, appended, latest}
-use Rattle.history.proofs.Canonical.{Sizes, sized_ok, sized_cases, owned_append, Canonical, sound_is}
+use Rattle.history.proofs.Canonical.{Sizes, sized_ok, sized_only, owned_append, Canonical, sound_is, writes_few}
+use Rattle.history.proofs.Results.{then_ok}
 use Rattle.history.proofs.Entered.{writes, write_of, writes_append, writes_length, latest_append}
 
 module _ {PS PC : Type 0} (K : Model PS PC) where
@@ -26,10 +28,8 @@ module _ {PS PC : Type 0} (K : Model PS PC) where
   pub formats_only : (m v : Memory PS PC) → formatted K m ≡ Ok v → Sizes (length m.cells) (length m.heads) (length m.records) × (emptied K m ≡ v)
   unfolding formatted
   formats_only m v e =
-      elim (sized_cases (length m.cells) (length m.heads) (length m.records)) [
-        | inl z ↦ (let same : Ok (emptied K m) ≡ Ok v = sym (ap (λ r. and_then r (λ _. Ok (emptied K m))) (sized_ok z)) ∙ e in (z, cc))
-        | inr bad ↦ (let never : Err bad.0 ≡ Ok v = sym (ap (λ r. and_then r (λ _. Ok (emptied K m))) bad.1) ∙ e in let z : ◌≡◌ {A = ℕ} 0 1 = cc in absurd (omega arith))
-      ]
+      let (x, p, same) = then_ok (sized (length m.cells) (length m.heads) (length m.records)) (λ _. Ok (emptied K m)) v e in
+      (sized_only (length m.cells) (length m.heads) (length m.records) x p, cc)
 
   module _ (L : Laws K) {h : History K.State} {v : Memory PS PC} (C : Canonical K h v) (c : ℕ) (s : PS) where
     abbrev pub es : List (Entry K.State)
@@ -62,43 +62,37 @@ module _ {PS PC : Type 0} (K : Model PS PC) where
       pub size : length ws ≡ count h
       size = writes_length K es
 
-      pub few : length ws ≤ 65535
-      few = omega (arith, size, C.fits, C.all_records, C.sizes.few_records)
-
       -- the record that is logged
       abbrev pub r : Record PC
-      r = (never_refused_lem K L ws v.records C.logs few c f).0
+      r = (never_refused_lem K L ws v.records C.logs (writes_few K C) c f).0
 
       pub plans : planned K v.records (v.count + 1) (get_or v.heads c 0) c f ≡ Ok r
       plans =
           ap (λ n. planned K v.records (n + 1) (get_or v.heads c 0) c f) (C.counts ∙ sym size)
           ∙ ap (λ n. planned K v.records (length ws + 1) n c f) (C.heads c in')
-          ∙ (never_refused_lem K L ws v.records C.logs few c f).1
+          ∙ (never_refused_lem K L ws v.records C.logs (writes_few K C) c f).1
 
       logs : logged K v.records v.count (v.count + 1) (get_or v.heads c 0) c f ≡ stored r
       unfolding logged
       logs = ap (λ x. and_then (refused_as Ladder x) stored) plans
 
-      reaches : written K v c s ≡ and_then (stored r) moved
-      reaches =
-          checked ∙ cond-false (leb (length v.cells) c) (Err Cell) tried (lt-leb (length v.cells) c (omega (arith, C.all_cells)))
-          ∙ ap (λ x. and_then x moved) logs
+      tries : written K v c s ≡ tried
+      tries = checked ∙ cond-false (leb (length v.cells) c) (Err Cell) tried (lt-leb (length v.cells) c (omega (arith, C.all_cells)))
 
       pub write_full : h.capacity ≤ count h → written K v c s ≡ Err Full
       write_full full =
-          reaches ∙ ap (λ x. and_then x moved) (cond-true (leb (length v.records) v.count) (Err Full) (Ok (set v.records v.count r)) (le-leb (length v.records) v.count (omega (arith, C.all_records, C.counts))))
+          tries ∙ ap (λ x. and_then x moved) (logs ∙ cond-true (leb (length v.records) v.count) (Err Full) (Ok (set v.records v.count r)) (le-leb (length v.records) v.count (omega (arith, C.all_records, C.counts))))
 
       abbrev pub after : Memory PS PC
       after = memory (set v.cells c s) (set v.heads c (v.count + 1)) (set v.records v.count r) (v.count + 1)
 
-      pub write_taken : count h < h.capacity → written K v c s ≡ Ok after
-      write_taken some =
-          reaches ∙ ap (λ x. and_then x moved) (cond-false (leb (length v.records) v.count) (Err Full) (Ok (set v.records v.count r)) (lt-leb (length v.records) v.count (omega (arith, C.all_records, C.counts))))
-
       pub tried_taken : count h < h.capacity → tried ≡ Ok after
       tried_taken some =
-          ap (λ x. and_then x moved) logs
-          ∙ ap (λ x. and_then x moved) (cond-false (leb (length v.records) v.count) (Err Full) (Ok (set v.records v.count r)) (lt-leb (length v.records) v.count (omega (arith, C.all_records, C.counts))))
+          ap (λ x. and_then x moved)
+          (logs ∙ cond-false (leb (length v.records) v.count) (Err Full) (Ok (set v.records v.count r)) (lt-leb (length v.records) v.count (omega (arith, C.all_records, C.counts))))
+
+      pub write_taken : count h < h.capacity → written K v c s ≡ Ok after
+      write_taken some = tries ∙ tried_taken some
 
       -- the entry that it adds, and its write
       abbrev e : Entry K.State
@@ -123,7 +117,7 @@ module _ {PS PC : Type 0} (K : Model PS PC) where
           ∙ take_more_set v.records v.count r (at_count some)
           ∙ ap (λ n. take n v.records ++ r ∷ []) (C.counts ∙ sym size)
           ∙ ap (λ us. us ++ r ∷ []) C.logs
-          ∙ sym (ap (log_of K) grown ∙ (never_refused_lem K L ws v.records C.logs few c f).5)
+          ∙ sym (ap (log_of K) grown ∙ (never_refused_lem K L ws v.records C.logs (writes_few K C) c f).5)
 
       pub write_canonical : count h < h.capacity → Canonical K (appended h c (K.state s)) after
       write_canonical some =
