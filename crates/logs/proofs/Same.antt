@@ -25,15 +25,8 @@ module _ {PS PC : Type 0} (K : Model PS PC) where
 
     good_same : (c limit link : ℕ) → limit ≤ n → good K rs c limit link ≡ good K ss c limit link
     good_same c limit link low =
-        elim (cases_lt 0 link) [
-          | inr o ↦ (let z = eq-eqb link 0 (omega arith) in
-              or_left (eqb link 0) (leb link limit && eqb (numbered K rs link).cell c) z ∙ sym (or_left (eqb link 0) (leb link limit && eqb (numbered K ss link).cell c) z))
-          | inl l ↦ elim (cases_lt limit link) [
-            | inl past ↦ (let f = lt-leb link limit past in
-                ap (λ b. eqb link 0 || b) (and_left (leb link limit) (eqb (numbered K rs link).cell c) f ∙ sym (and_left (leb link limit) (eqb (numbered K ss link).cell c) f)))
-            | inr within ↦ ap (λ x. eqb link 0 || (leb link limit && eqb x c)) (S.cell (numbered K rs link) (numbered K ss link) (same link l (omega arith)))
-          ]
-        ]
+        let cells : 1 ≤ link → link ≤ n → (numbered K rs link).cell ≡ (numbered K ss link).cell = λ l m. S.cell (numbered K rs link) (numbered K ss link) (same link l m) in
+        grind (arith, nat_tests)
 
     pub follow_same : (c limit holder link link' : ℕ) → limit ≤ n → link ≡ link' → follow K rs c limit holder link ≡ follow K ss c limit holder link'
     follow_same c limit holder link link' low e = ap (λ b. cond b (Ok link) (Err (Link c holder))) (good_same c limit link low) ∙ ap (follow K ss c limit holder) e
