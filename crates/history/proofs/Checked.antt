@@ -2,6 +2,7 @@
 use Rattle.std.proofs.Common.{◌≡◌, ℕ, ◌<◌, ◌≤◌, not, ◌||◌, eqb, ltb, List, map, length, Ok, Err, Result, sym, refl, ap, ◌∙◌, inl, inr, arith, lit≤}
 use Rattle.std.proofs.lemmas.List.FromFn.{length-map-range_with_len, get_or-map-range_with_len}
 use Rattle.std.proofs.lemmas.List.{ext_get_or}
+use Rattle.std.proofs.lemmas.Bool.Decides.{nat_tests}
 use Rattle.std.proofs.lemmas.Bool.{cases_eq, cond-true, cond-false, eq-eqb, ne_eqb, or_from, le-ltb, not_from_true, not_from_false}
 use Rattle.std.specs.List.{range_with_len}
 use Rattle.kind.specs.Answers.{and_then, refuse_if, refused_as, kept}
@@ -17,6 +18,7 @@ use Rattle.history.specs.Soundness.{CountsAs}
 use Rattle.history.proofs.Accepts.{records_fine, accepts}
 use Rattle.history.proofs.Canonical.{Sizes, sized_ok, Canonical, sound_is}
 use Rattle.history.proofs.Entered.{writes_head}
+use Rattle.history.proofs.Images.{by_cells}
 use Rattle.history.proofs.Newest.{newest_length, newest, newest_all}
 
 module _ {PS PC : Type 0} (K : Model PS PC) (L : Laws K) {h : History K.State} {v : Memory PS PC} (C : Canonical K h v) where
@@ -35,12 +37,9 @@ module _ {PS PC : Type 0} (K : Model PS PC) (L : Laws K) {h : History K.State} {
   -- the work row
   noted_is : noted K v ≡ map (last_entry h) (range_with_len 0 h.cells)
   noted_is =
-      let size : length (newest K L C v.count) ≡ h.cells = newest_length K (length v.cells) v.records v.count ∙ C.all_cells in
       ap (λ r. newest K L C (before_wrong K v.count r)) (records_fine K L C v itself C.sizes fits)
-      ∙ ext_get_or 0 (newest K L C v.count) (map (last_entry h) (range_with_len 0 h.cells)) (size ∙ sym (length-map-range_with_len (last_entry h) 0 h.cells))
-      (λ c l.
-      let in' : c < h.cells = omega arith in
-      newest_all K L C c in' ∙ writes_head K h.entries c ∙ sym (get_or-map-range_with_len (last_entry h) 0 h.cells c c 0 in' (omega arith)))
+      ∙ by_cells 0 (newest K L C v.count) (last_entry h) h.cells (newest_length K (length v.cells) v.records v.count ∙ C.all_cells)
+      (λ c l. newest_all K L C c l ∙ writes_head K h.entries c)
 
   module _ (work : List ℕ) where
     abbrev rest : Result (Unit {0}) Refusal
@@ -48,12 +47,10 @@ module _ {PS PC : Type 0} (K : Model PS PC) (L : Laws K) {h : History K.State} {
 
     work_odd : (length work ≡ h.cells → ⊥) → workable K v work ≡ Err Heads
     work_odd n =
-        let a : ℕ = length v.cells in
-        let b : ℕ = length work in
-        let no_work : sized a b 0 ≡ Err Heads =
-        cond-false (eqb a 0 || ltb 4096 a) (Err Cells) (refuse_if (not (eqb b a)) Heads (refuse_if (ltb 65535 0) Capacity (Ok tt)))
-        (or_from (eqb a 0) (ltb 4096 a) (ne_eqb a 0 (λ e. omega (arith, C.sizes.some_cells))) (le-ltb 4096 a C.sizes.few_cells))
-        ∙ cond-true (not (eqb b a)) (Err Heads) (refuse_if (ltb 65535 0) Capacity (Ok tt)) (not_from_false (eqb b a) (ne_eqb b a (λ e. n (e ∙ C.all_cells)))) in
+        let some : 1 ≤ length v.cells = C.sizes.some_cells in
+        let few : length v.cells ≤ 4096 = C.sizes.few_cells in
+        let all : length v.cells ≡ h.cells = C.all_cells in
+        let no_work : sized (length v.cells) (length work) 0 ≡ Err Heads = grind (arith, nat_tests) in
         ap (λ r. and_then r (λ _. rest)) no_work
 
     work_even : length work ≡ h.cells → workable K v work ≡ Ok tt

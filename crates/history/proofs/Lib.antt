@@ -7,6 +7,7 @@ pub mod Entered
 pub mod Figures
 pub mod Filed
 pub mod Filings
+pub mod Images
 pub mod Loaded
 pub mod Newest
 pub mod Nth

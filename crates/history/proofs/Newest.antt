@@ -16,6 +16,7 @@ use Rattle.volume.specs.Rolls.{acted}
 use Rattle.history.specs.History.{History, Entry, count, stood}
 use Rattle.history.proofs.Canonical.{Canonical, present}
 use Rattle.history.proofs.Entered.{writes, write_of, writes_append, writes_length}
+use Rattle.history.proofs.Images.{set_read}
 use Rattle.history.proofs.Nth.{Nth, nth}
 use Rattle.history.proofs.Spanned.{got, got_is, onward_diff}
 
@@ -44,14 +45,8 @@ module _ {PS PC : Type 0} (K : Model PS PC) (L : Laws K) {h : History K.State} {
       ap (λ k. head_of (writes K (take k es)) c) one ∙ ap (λ xs. head_of (writes K xs) c) N.next ∙ ap (λ ws. head_of ws c) (writes_append K us (N.entry ∷ []))
       ∙ head_moves_lem K (writes K us) (write_of K us N.entry) c ∙ ap (λ k. cond (eqb d c) k (head_of (writes K us) c)) (ap (λ k. k + 1) size ∙ sym one) in
       ap (λ k. get_or (set (newest n) k (suc n)) c 0) cell
-      ∙ elim (cases_eq d c) [
-        | inl own ↦
-            ap (λ k. get_or (set (newest n) d (suc n)) k 0) (sym own) ∙ get_or-set_same (newest n) d (suc n) 0 (omega (arith, N.owned))
-            ∙ sym (now ∙ cond-true (eqb d c) (suc n) (head_of (writes K us) c) (eq-eqb d c own))
-        | inr other ↦
-            get_or-set_other (newest n) d c (suc n) 0 (λ e. other (sym e)) ∙ newest_at n (omega arith) c in'
-            ∙ sym (now ∙ cond-false (eqb d c) (suc n) (head_of (writes K us) c) (ne_eqb d c other))
-      ]
+      ∙ set_read (λ (k : ℕ). k) (newest n) d c (suc n) 0 (omega (arith, N.owned))
+      ∙ ap (cond (eqb d c) (suc n)) (newest_at n (omega arith) c in') ∙ sym now
 
   pub newest_all : (c : ℕ) → c < h.cells → get_or (newest v.count) c 0 ≡ head_of (writes K es) c
   newest_all c in' =

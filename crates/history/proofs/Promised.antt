@@ -19,6 +19,7 @@ use Rattle.history.proofs.Canonical.{Canonical, present, blank_canonical, empty_
 use Rattle.history.proofs.Checked.{check_told}
 use Rattle.history.proofs.Entered.{writes_head}
 use Rattle.history.proofs.Filed.{save_told, save_only}
+use Rattle.history.proofs.Images.{by_cells, map_by_cells}
 use Rattle.history.proofs.Loaded.{load_told, load_keeps, load_starts, load_answers}
 use Rattle.history.proofs.Recalled.{fit, recall_back}
 use Rattle.history.proofs.Replayed.{replay_told, replays_there}
@@ -32,20 +33,10 @@ module _ {PS PC : Type 0} (K : Model PS PC) (L : Laws K) where
   module _ {h : History K.State} {v : Memory PS PC} (C : Canonical K h v) where
     cells_stand : map K.state v.cells ≡ image K h (count h)
     cells_stand =
-        let n = length-map v.cells K.state in
-        let m = length-map-range_with_len (λ c. stood K h c (count h)) 0 h.cells in
-        ext_get_or K.origin (map K.state v.cells) (image K h (count h)) (n ∙ C.all_cells ∙ sym m)
-        (λ i l.
-        let in' : i < h.cells = omega (arith, C.all_cells) in
-        get_or-map K.state v.cells i (origin K) K.origin (omega arith) ∙ C.states i in' ∙ sym (present K h i)
-        ∙ sym (get_or-map-range_with_len (λ c. stood K h c (count h)) 0 h.cells i i K.origin in' (omega arith)))
+        map_by_cells K.state (origin K) K.origin v.cells (λ c. stood K h c (count h)) h.cells C.all_cells (λ c l. C.states c l ∙ sym (present K h c))
 
     heads_stand : v.heads ≡ map (last_entry h) (range_with_len 0 h.cells)
-    heads_stand =
-        ext_get_or 0 v.heads (map (last_entry h) (range_with_len 0 h.cells)) (C.sizes.even ∙ C.all_cells ∙ sym (length-map-range_with_len (last_entry h) 0 h.cells))
-        (λ i l.
-        let in' : i < h.cells = omega (arith, C.all_cells, C.sizes.even) in
-        C.heads i in' ∙ writes_head K h.entries i ∙ sym (get_or-map-range_with_len (last_entry h) 0 h.cells i i 0 in' (omega arith)))
+    heads_stand = by_cells 0 v.heads (last_entry h) h.cells (C.sizes.even ∙ C.all_cells) (λ c l. C.heads c l ∙ writes_head K h.entries c)
 
     -- write
     write_keeps : (c : ℕ) (s : PS) → Canonical K (fed K h (write c s)) (run K v (write c s))

@@ -27,6 +27,7 @@ use Rattle.history.specs.Promises.{fresh}
 use Rattle.history.specs.Soundness.{Asked, asks, Alike, CountsAs, LeftByWrites}
 use Rattle.history.proofs.Alikes.{AlikeStretch, planned_alike, spanned_alike}
 use Rattle.history.proofs.Canonical.{Sizes, sized_only, sound_only, Canonical, blank_canonical, writes_few}
+use Rattle.history.proofs.Images.{set_read}
 use Rattle.history.proofs.Newest.{newest_length, cell_made}
 use Rattle.history.proofs.Results.{then_ok, as_ok, test_ok, from_first}
 use Rattle.history.proofs.Spanned.{got, spans}
@@ -192,15 +193,10 @@ module _ {PS PC : Type 0} (K : Model PS PC) (L : Laws K) where
               ]);
           heads = λ d low'. ap (λ u. get_or u.heads d 0) taken
               ∙ ap (λ k. get_or (set w.heads c k) d 0) (ap (λ k. k + 1) seen ∙ one)
-              ∙ elim (cases_eq d c) [
-                | inl own ↦
-                    ap (λ k. get_or (set w.heads c (suc m)) k 0) own ∙ get_or-set_same w.heads c (suc m) 0 (omega (arith, C.sizes.even, C.all_cells))
-                    ∙ sym (ap (λ k. get_or (set (news m) k (suc m)) d 0) (ap (λ k. (numbered K v.records k).cell) (sym one))
-                    ∙ ap (λ k. get_or (set (news m) c (suc m)) k 0) own ∙ get_or-set_same (news m) c (suc m) 0 (omega (arith, newest_length K n v.records m)))
-                | inr other ↦
-                    get_or-set_other w.heads c d (suc m) 0 other ∙ M.heads d low'
-                    ∙ sym (ap (λ k. get_or (set (news m) k (suc m)) d 0) (ap (λ k. (numbered K v.records k).cell) (sym one)) ∙ get_or-set_other (news m) c d (suc m) 0 other)
-              ];
+              ∙ set_read (λ (k : ℕ). k) w.heads c d (suc m) 0 (omega (arith, C.sizes.even, C.all_cells))
+              ∙ ap (cond (eqb c d) (suc m)) (M.heads d low')
+              ∙ sym (ap (λ k. get_or (set (news m) k (suc m)) d 0) (ap (λ k. (numbered K v.records k).cell) (sym one))
+              ∙ set_read (λ (k : ℕ). k) (news m) c d (suc m) 0 (omega (arith, newest_length K n v.records m)));
         }
 
     made : (m : ℕ) → m ≤ v.count → Made m

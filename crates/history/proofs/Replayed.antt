@@ -20,6 +20,7 @@ use Rattle.history.specs.History.{History, count, latest, stood, image}
 use Rattle.history.specs.Promises.{Replays}
 use Rattle.history.proofs.Canonical.{Canonical, sound_is}
 use Rattle.history.proofs.Entered.{latest_append}
+use Rattle.history.proofs.Images.{map_by_cells, set_read}
 use Rattle.history.proofs.Nth.{Nth, nth}
 use Rattle.history.proofs.Results.{reply_if}
 
@@ -51,14 +52,9 @@ module _ {PS PC : Type 0} (K : Model PS PC) (L : Laws K) {h : History K.State} {
       ∙ ap (K.act (K.change r.change)) (played_at n (omega arith) d N.owned)
       ∙ ap (λ f. K.act f (stood K h d n)) change ∙ L.diff_acts (stood K h d n) N.entry.state in
       ap (λ k. K.state (get_or (set past k new) c (origin K))) cell
-      ∙ elim (cases_eq d c) [
-        | inl own ↦
-            ap (λ k. K.state (get_or (set past d new) k (origin K))) (sym own) ∙ ap K.state (get_or-set_same past d new (origin K) (omega (arith, N.owned))) ∙ made
-            ∙ sym (now ∙ cond-true (eqb d c) N.entry.state (stood K h c n) (eq-eqb d c own))
-        | inr other ↦
-            ap K.state (get_or-set_other past d c new (origin K) (λ e. other (sym e))) ∙ played_at n (omega arith) c in'
-            ∙ sym (now ∙ cond-false (eqb d c) N.entry.state (stood K h c n) (ne_eqb d c other))
-      ]
+      ∙ set_read K.state past d c new (origin K) (omega (arith, N.owned))
+      ∙ ap (λ s. cond (eqb d c) s (K.state (get_or past c (origin K)))) made
+      ∙ ap (cond (eqb d c) N.entry.state) (played_at n (omega arith) c in') ∙ sym now
 
   pub known : (n : ℕ) → n ≤ count h → each_below (cell_known K h.cells v.records) n ≡ Ok tt
   known n l =
@@ -69,14 +65,7 @@ module _ {PS PC : Type 0} (K : Model PS PC) (L : Laws K) {h : History K.State} {
       (tt, cond-false (leb h.cells (numbered K v.records (i + 1)).cell) (Err (Cell (i + 1))) (Ok tt) (lt-leb h.cells (numbered K v.records (i + 1)).cell in')))
 
   played_stands : (n : ℕ) → n ≤ count h → map K.state (played_up n) ≡ image K h n
-  played_stands n l =
-      let size = played_length n in
-      let k = length-map (played_up n) K.state in
-      ext_get_or K.origin (map K.state (played_up n)) (image K h n) (k ∙ size ∙ sym (length-map-range_with_len (λ c. stood K h c n) 0 h.cells))
-      (λ c low.
-      let in' : c < h.cells = omega arith in
-      get_or-map K.state (played_up n) c (origin K) K.origin (omega arith) ∙ played_at n l c in'
-      ∙ sym (get_or-map-range_with_len (λ c. stood K h c n) 0 h.cells c c K.origin in' (omega arith)))
+  played_stands n l = map_by_cells K.state (origin K) K.origin (played_up n) (λ c. stood K h c n) h.cells (played_length n) (λ c low. played_at n l c low)
 
   module _ (im : List PS) (m : ℕ) where
     abbrev tries : ℕ → Result (List PS) Refusal

@@ -20,7 +20,7 @@ use Rattle.volume.specs.declared.refusal.Refusal.TheVariants.{Moment, Ladder, Fu
 use Rattle.history.specs.Calls.{Reply, counted, refused, reply, revert, restoring, restored, run, fed, replied, predicted}
 use Rattle.history.specs.History.{History, Entry, count, extended, latest, last_number, stood}
 use Rattle.history.proofs.Canonical.{Owned, owned_append, Canonical, sound_is, writes_few, present}
-use Rattle.history.proofs.Entered.{writes, writes_on, writes_append, writes_length, writes_head, latest_append, onward_acts}
+use Rattle.history.proofs.Entered.{writes, writes_on, writes_append, writes_length, writes_head, latest_append, last_append, through, onward_acts}
 use Rattle.history.proofs.Results.{reply_if}
 use Rattle.history.proofs.Written.{write_taken, write_canonical, after}
 
@@ -30,10 +30,6 @@ last_none n before found [] o = refl
 last_none n before found (y ∷ ys) o =
     last_none n (before + 1) (cond (eqb y.cell n) (before + 1) found) ys o.1
     ∙ cond-false (eqb y.cell n) (before + 1) found (ne_eqb y.cell n (λ e. omega (arith, o.0)))
-
-last_keeps : {S : Type 0} (n before found : ℕ) (xs ys : List (Entry S)) → Owned n ys → last_number before found n (xs ++ ys) ≡ last_number before found n xs
-last_keeps n before found [] ys o = last_none n before found ys o
-last_keeps n before found (x ∷ xs) ys o = last_keeps n (before + 1) (cond (eqb x.cell n) (before + 1) found) xs ys o
 
 latest_none : {S : Type 0} (s : S) (n : ℕ) (ys : List (Entry S)) → Owned n ys → latest s n ys ≡ s
 latest_none s n [] o = refl
@@ -108,20 +104,12 @@ module _ {PS PC : Type 0} (K : Model PS PC) (L : Laws K) {h : History K.State} {
       ap (λ r. and_then r (λ x. cond (alike K s x) (Ok 0) (and_then (refused_as Ladder (planned K v.records (from + 1) (get_or v.heads c 0) c (difference K s x))) (λ _. Ok 1))))
       (earlier_is v c C.logs (C.heads c in') now)
       ∙ ap (λ b. cond b (Ok 0) plan) (alike_is v c C.logs (C.heads c in') now)
-      ∙ ap (cond (same? c) (Ok 0)) fine
-      ∙ elim (cases_Bool (same? c)) [
-        | inl q ↦ cond-true (same? c) (Ok 0) (Ok 1) q ∙ ap Ok (sym (cond-true (same? c) 0 1 q))
-        | inr q ↦ cond-false (same? c) (Ok 0) (Ok 1) q ∙ ap Ok (sym (cond-false (same? c) 0 1 q))
-      ]
+      ∙ ap (cond (same? c) (Ok 0)) fine ∙ sym (through Ok (same? c) 0 1)
 
   restoring_more : (n : ℕ) → length (restoring K h to (suc n)) ≡ length (restoring K h to n) + cond (same? n) 0 1
   restoring_more n =
       let e : Entry K.State = record { cell = n; state = stood K h n to } in
-      length-append (restoring K h to n) (cond (same? n) [] (e ∷ []))
-      ∙ elim (cases_Bool (same? n)) [
-        | inl q ↦ ap (λ xs. length (restoring K h to n) + length xs) (cond-true (same? n) [] (e ∷ []) q) ∙ ap (λ k. length (restoring K h to n) + k) (sym (cond-true (same? n) 0 1 q))
-        | inr q ↦ ap (λ xs. length (restoring K h to n) + length xs) (cond-false (same? n) [] (e ∷ []) q) ∙ ap (λ k. length (restoring K h to n) + k) (sym (cond-false (same? n) 0 1 q))
-      ]
+      length-append (restoring K h to n) (cond (same? n) [] (e ∷ [])) ∙ ap (λ k. length (restoring K h to n) + k) (through length (same? n) [] (e ∷ []))
 
   all_needs : (n : ℕ) → n ≤ h.cells → all_needed K from to v n ≡ Ok (length (restoring K h to n))
   all_needs zero l = refl
@@ -144,7 +132,7 @@ module _ {PS PC : Type 0} (K : Model PS PC) (L : Laws K) {h : History K.State} {
       let D : Canonical K (back_to n) m = puts_back n (omega arith) (omega arith) in
       let logs : Logs K m.records (writes K es) = logs_front K L (writes K es) (writes_on K es new) m.records (subst (Logs K m.records) (writes_append K es new) D.logs) in
       let head : get_or m.heads n 0 ≡ head_of (writes K es) n =
-      D.heads n in' ∙ writes_head K (es ++ new) n ∙ last_keeps n 0 0 es new (restoring_owned n) ∙ sym (writes_head K es n) in
+      D.heads n in' ∙ writes_head K (es ++ new) n ∙ last_append 0 0 n es new ∙ last_none n (0 + length es) (last_number 0 0 n es) new (restoring_owned n) ∙ sym (writes_head K es n) in
       let state : K.state (held_state K m n) ≡ stood K h n (count h) =
       D.states n in' ∙ latest_append K.origin n es new ∙ latest_none (latest K.origin n es) n new (restoring_owned n) ∙ sym (present K h n) in
       let u : PS = t m n logs head state in

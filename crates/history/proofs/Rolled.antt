@@ -16,6 +16,7 @@ use Rattle.history.specs.Calls.{Reply, states, refused, reply, roll, replied, pr
 use Rattle.history.specs.History.{History, count, stood, image}
 use Rattle.history.specs.Promises.{Rolls}
 use Rattle.history.proofs.Canonical.{Canonical, sound_is}
+use Rattle.history.proofs.Images.{map_by_cells}
 use Rattle.history.proofs.Results.{reply_if}
 use Rattle.history.proofs.Spanned.{spans, got, got_is, onward_diff}
 
@@ -49,23 +50,17 @@ module _ {PS PC : Type 0} (K : Model PS PC) (L : Laws K) {h : History K.State} {
     abbrev moved : ℕ → K.State
     moved c = K.act (K.diff (stood K h c a) (stood K h c b)) (K.state (get_or im c (origin K)))
 
-    at_cell : (c : ℕ) → c < h.cells → K.state (swept K (across K v a b c) (get_or im c (origin K))) ≡ moved c
-    at_cell c l =
-        ap (λ r. K.state (swept K r (get_or im c (origin K)))) (spans K L C c l a b)
+    final_at : (c : ℕ) → c < h.cells → K.state (get_or final c (origin K)) ≡ moved c
+    final_at c l =
+        ap K.state (get_or-map-range_with_len (λ c. swept K (across K v a b c) (get_or im c (origin K))) 0 (length im) c c (origin K) (omega arith) (omega arith))
+        ∙ ap (λ r. K.state (swept K r (get_or im c (origin K)))) (spans K L C c l a b)
         ∙ L.state_plain (K.act (K.change (got K L C c l a b).change) (K.state (get_or im c (origin K))))
         ∙ ap (λ f. K.act f (K.state (get_or im c (origin K)))) (got_is K L C c l a b ∙ onward_diff K L C c a b)
 
-    final_is : map K.state final ≡ map moved (range_with_len 0 h.cells)
-    final_is =
-        let n = length-map final K.state in
-        let m = length-map-range_with_len (λ c. swept K (across K v a b c) (get_or im c (origin K))) 0 (length im) in
-        let k = length-map-range_with_len moved 0 h.cells in
-        ext_get_or K.origin (map K.state final) (map moved (range_with_len 0 h.cells)) (n ∙ m ∙ even ∙ sym k)
-        (λ c l.
-        let in' : c < h.cells = omega arith in
-        get_or-map K.state final c (origin K) K.origin (omega arith)
-        ∙ ap K.state (get_or-map-range_with_len (λ c. swept K (across K v a b c) (get_or im c (origin K))) 0 (length im) c c (origin K) (omega arith) (omega arith))
-        ∙ at_cell c in' ∙ sym (get_or-map-range_with_len moved 0 h.cells c c K.origin in' (omega arith)))
+    final_by : (f : ℕ → K.State) → ((c : ℕ) → c < h.cells → moved c ≡ f c) → map K.state final ≡ map f (range_with_len 0 h.cells)
+    final_by f is =
+        map_by_cells K.state (origin K) K.origin final f h.cells (length-map-range_with_len (λ c. swept K (across K v a b c) (get_or im c (origin K))) 0 (length im) ∙ even)
+        (λ c l. final_at c l ∙ is c l)
 
   pub roll_told : replied K v (roll im a b) ≡ predicted K h (roll im a b)
   roll_told =
@@ -75,13 +70,11 @@ module _ {PS PC : Type 0} (K : Model PS PC) (L : Laws K) {h : History K.State} {
       ∙ reply_if shown odd? Image (refuse_if late? Moment all) (cond late? (refused Moment) there) refl
       (λ t.
       let even : length im ≡ h.cells = eqb-true (length im) h.cells (not-false (eqb (length im) h.cells) t) in
-      reply_if shown late? Moment all there refl (λ _. ap shown (tried even) ∙ ap (λ ss. states ss) (final_is even)))
+      reply_if shown late? Moment all there refl (λ _. ap shown (tried even) ∙ ap (λ ss. states ss) (final_by even (moved even) (λ _ _. refl))))
 
   pub rolls_there : map K.state im ≡ image K h a → a ≤ count h → b ≤ count h → Rolls K h v im a b
   rolls_there same x y =
       let even : length im ≡ h.cells = sym (length-map im K.state) ∙ ap length same ∙ length-map-range_with_len (λ c. stood K h c a) 0 h.cells in
-      let k = length-map-range_with_len (moved even) 0 h.cells in
-      let m = length-map-range_with_len (λ c. stood K h c b) 0 h.cells in
       let at : (c : ℕ) → c < h.cells → K.state (get_or im c (origin K)) ≡ stood K h c a = λ c l.
       sym (get_or-map K.state im c (origin K) K.origin (omega arith)) ∙ ap (λ ss. get_or ss c K.origin) same
       ∙ get_or-map-range_with_len (λ c. stood K h c a) 0 h.cells c c K.origin l (omega arith) in
@@ -90,12 +83,5 @@ module _ {PS PC : Type 0} (K : Model PS PC) (L : Laws K) {h : History K.State} {
         answered =
             checked ∙ cond-false odd? (Err Image) (refuse_if late? Moment all) (not_from_true (eqb (length im) h.cells) (eq-eqb (length im) h.cells even))
             ∙ cond-false late? (Err Moment) all (or_from (ltb (count h) a) (ltb (count h) b) (le-ltb (count h) a x) (le-ltb (count h) b y)) ∙ tried even;
-        there =
-            final_is even
-            ∙ ext_get_or K.origin (map (moved even) (range_with_len 0 h.cells)) (image K h b) (k ∙ sym m)
-            (λ c l.
-            let in' : c < h.cells = omega arith in
-            get_or-map-range_with_len (moved even) 0 h.cells c c K.origin in' (omega arith)
-            ∙ ap (K.act (K.diff (stood K h c a) (stood K h c b))) (at c in') ∙ L.diff_acts (stood K h c a) (stood K h c b)
-            ∙ sym (get_or-map-range_with_len (λ c. stood K h c b) 0 h.cells c c K.origin in' (omega arith)));
+        there = final_by even (λ c. stood K h c b) (λ c l. ap (K.act (K.diff (stood K h c a) (stood K h c b))) (at c l) ∙ L.diff_acts (stood K h c a) (stood K h c b));
       }

@@ -16,6 +16,7 @@ use Rattle.volume.specs.declared.refusal.Refusal.{Refusal}
 use Rattle.volume.specs.declared.refusal.Refusal.TheVariants.{Cell, Full, Ladder}
 use Rattle.history.specs.History.{History, Entry, count, appended, latest}
 use Rattle.history.proofs.Canonical.{Sizes, sized_ok, sized_only, owned_append, Canonical, sound_is, writes_few}
+use Rattle.history.proofs.Images.{set_read}
 use Rattle.history.proofs.Results.{then_ok}
 use Rattle.history.proofs.Entered.{writes, write_of, writes_append, writes_length, latest_append}
 
@@ -134,24 +135,11 @@ module _ {PS PC : Type 0} (K : Model PS PC) where
             counts = ap (λ n. n + 1) C.counts ∙ sym (length_push es e);
             fits = omega (arith, length_push es e);
             owned = owned_append h.cells es (e ∷ []) C.owned (in', tt);
-            states = λ i l. elim (cases_eq c i) [
-              | inl own ↦
-                  ap (λ k. K.state (get_or (set v.cells c s) k (origin K))) (sym own)
-                  ∙ ap K.state (get_or-set_same v.cells c s (origin K) (omega (arith, C.all_cells)))
-                  ∙ sym (now i ∙ cond-true (eqb c i) (K.state s) (latest K.origin i es) (eq-eqb c i own))
-              | inr other ↦
-                  ap K.state (get_or-set_other v.cells c i s (origin K) (λ d. other (sym d))) ∙ C.states i l
-                  ∙ sym (now i ∙ cond-false (eqb c i) (K.state s) (latest K.origin i es) (ne_eqb c i other))
-            ];
-            heads = λ i l. elim (cases_eq c i) [
-              | inl own ↦
-                  ap (λ k. get_or (set v.heads c (v.count + 1)) k 0) (sym own)
-                  ∙ get_or-set_same v.heads c (v.count + 1) 0 (omega (arith, C.all_cells, C.sizes.even))
-                  ∙ ap (λ n. n + 1) (C.counts ∙ sym size)
-                  ∙ sym (new_heads i ∙ cond-true (eqb c i) (length ws + 1) (head_of ws i) (eq-eqb c i own))
-              | inr other ↦
-                  get_or-set_other v.heads c i (v.count + 1) 0 (λ d. other (sym d)) ∙ C.heads i l
-                  ∙ sym (new_heads i ∙ cond-false (eqb c i) (length ws + 1) (head_of ws i) (ne_eqb c i other))
-            ];
+            states = λ i l.
+                set_read K.state v.cells c i s (origin K) (omega (arith, C.all_cells)) ∙ ap (cond (eqb c i) (K.state s)) (C.states i l) ∙ sym (now i);
+            heads = λ i l.
+                set_read (λ (k : ℕ). k) v.heads c i (v.count + 1) 0 (omega (arith, C.all_cells, C.sizes.even))
+                ∙ ap (λ k. cond (eqb c i) k (get_or v.heads i 0)) (ap (λ n. n + 1) (C.counts ∙ sym size))
+                ∙ ap (cond (eqb c i) (length ws + 1)) (C.heads i l) ∙ sym (new_heads i);
             logs = new_log some;
           }

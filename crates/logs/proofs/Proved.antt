@@ -1,5 +1,5 @@
 -- The theorems of specs/Theorems.antt. Assumes nothing.
-use Rattle.std.proofs.Common.{◌≡◌, ℕ, ◌+◌, ◌-◌, ◌*◌, ◌≤◌, Bool, cond, eqb, ltb, List, [], ◌∷◌, ◌++◌, length, get_or, Ok, sym, refl, ap, ◌∙◌, subst, inl, inr, arith}
+use Rattle.std.proofs.Common.{◌≡◌, ℕ, ◌+◌, ◌-◌, ◌*◌, ◌≤◌, List, [], ◌∷◌, ◌++◌, length, get_or, Ok, sym, refl, ap, ◌∙◌, subst, arith}
 use Rattle.std.proofs.lemmas.List.{append-nil, append_assoc, length-append, length_push, get_or_push, get_or-take}
 use Rattle.std.proofs.lemmas.Bool.Decides.{nat_tests}
 use Rattle.kind.specs.Model.{Model, Laws}
@@ -7,7 +7,7 @@ use Rattle.journal.specs.declared.record.Record.{Record}
 use Rattle.journal.specs.declared.walk.Stretch.{Stretch}
 use Rattle.journal.specs.Links.{blank, numbered}
 use Rattle.journal.specs.Spans.{spanned}
-use Rattle.logs.specs.Writes.{Write, head_after, head_of, log_of}
+use Rattle.logs.specs.Writes.{Write, head_of, log_of}
 use Rattle.logs.specs.Theorems.{Logs, NeverRefused, HeadMoves, SpansRight, StepsFew, EachRecord}
 use Rattle.logs.proofs.Algebra.{onward_back}
 use Rattle.logs.proofs.Counted.{Place, depth, total, depth_all, depth_last, between_is, head_place}

@@ -1,13 +1,13 @@
 -- What each record of a cell's ladder is, and that a record planned on such a ladder is such a record. Assumes nothing.
-use Rattle.std.proofs.Common.{◌≡◌, ℕ, ◌+◌, ◌-◌, ◌<◌, ◌≤◌, cond, ◌&&◌, eqb, ltb, leb, List, length, Ok, Err, Result, sym, refl, ap, ◌∙◌, inl, inr, arith}
+use Rattle.std.proofs.Common.{◌≡◌, ℕ, ◌+◌, ◌-◌, ◌<◌, ◌≤◌, cond, eqb, ltb, List, length, Ok, Err, Result, sym, refl, ap, ◌∙◌, inl, inr, arith}
 use Rattle.std.proofs.lemmas.Bool.Decides.{nat_tests}
-use Rattle.std.proofs.lemmas.Bool.{cases_lt, cases_eq, or_left, or_right, and_from, le-leb, le-ltb, eq-eqb, ne_eqb, cond-true, cond-false}
+use Rattle.std.proofs.lemmas.Bool.{cases_lt, cases_eq, le-ltb, eq-eqb, ne_eqb, cond-true, cond-false}
 use Rattle.kind.specs.Model.{Model, Laws}
 use Rattle.journal.specs.declared.record.Record.{Record}
 use Rattle.journal.specs.declared.faults.LadderFault.{LadderFault}
-use Rattle.journal.specs.declared.faults.LadderFault.TheVariants.{Link, Length}
+use Rattle.journal.specs.declared.faults.LadderFault.TheVariants.{Length}
 use Rattle.kind.specs.Answers.{and_then}
-use Rattle.journal.specs.Links.{newest, numbered, good, follow}
+use Rattle.journal.specs.Links.{newest, numbered, follow}
 use Rattle.journal.specs.Spans.{followed}
 use Rattle.journal.specs.Appends.{lone, joined, over, planned}
 use Rattle.logs.proofs.Algebra.{onward, onward_is, onward_joins}

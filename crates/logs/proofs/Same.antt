@@ -1,6 +1,6 @@
 -- What is planned on two logs whose records are alike. Assumes nothing.
-use Rattle.std.proofs.Common.{◌≡◌, ℕ, ◌+◌, ◌-◌, ◌≤◌, ◌&&◌, ◌||◌, eqb, ltb, leb, List, length, Ok, Err, sym, refl, ap, ◌∙◌, inl, inr, arith, cond}
-use Rattle.std.proofs.lemmas.Bool.{cases_lt, and_left, or_left, lt-leb, eq-eqb, eqb-false}
+use Rattle.std.proofs.Common.{◌≡◌, ℕ, ◌+◌, ◌-◌, ◌≤◌, eqb, ltb, List, length, Ok, Err, refl, ap, ◌∙◌, arith, cond}
+use Rattle.std.proofs.lemmas.Bool.{eqb-false}
 use Rattle.std.proofs.lemmas.Bool.Decides.{nat_tests}
 use Rattle.kind.specs.Model.{Model}
 use Rattle.journal.specs.declared.record.Record.{Record}
