@@ -1,8 +1,8 @@
 -- The memory that a history leaves, up to what the cells are taken for and to what lies beyond the count. Assumes nothing.
-use Rattle.std.proofs.Common.{◌≡◌, ℕ, ◌<◌, ◌≤◌, not, ◌||◌, eqb, ltb, ◌⊎◌, List, [], ◌∷◌, ◌++◌, length, get_or, replicate, Ok, Err, sym, refl, ap, ◌∙◌, subst, inl, inr, arith}
+use Rattle.std.proofs.Common.{◌≡◌, ℕ, ◌<◌, ◌≤◌, not, ◌||◌, eqb, ltb, List, [], ◌∷◌, ◌++◌, length, get_or, replicate, Ok, Err, sym, refl, ap, ◌∙◌, subst, arith}
 use Rattle.std.proofs.lemmas.List.{get_or-replicate, length-replicate, take_all}
 use Rattle.std.proofs.lemmas.Bool.Decides.{nat_tests}
-use Rattle.std.proofs.lemmas.Bool.{cases_Bool, cond-true, cond-false, or_from, or_parts, eqb-true, eqb-false, eq-eqb, ne_eqb, le-ltb, ltb-false, not-false, not_from_true}
+use Rattle.std.proofs.lemmas.Bool.{cond-false, or_parts, eqb-true, eqb-false, le-ltb, ltb-false, not-false}
 use Rattle.kind.specs.Answers.{and_then, refuse_if}
 use Rattle.kind.specs.Model.{Model, Laws}
 use Rattle.logs.specs.Theorems.{Logs}
@@ -10,7 +10,6 @@ use Rattle.logs.specs.Writes.{head_of}
 use Rattle.volume.specs.Calls.{origin, emptied}
 use Rattle.volume.specs.Memory.{Memory}
 use Rattle.volume.specs.Sizes.{sized, sound}
-use Rattle.volume.specs.declared.refusal.Refusal.{Refusal}
 use Rattle.volume.specs.declared.refusal.Refusal.TheVariants.{Cells, Heads, Capacity, Count}
 use Rattle.history.specs.History.{History, Entry, count, latest, stood}
 use Rattle.history.specs.Promises.{fresh}

@@ -1,17 +1,15 @@
 -- What check answers on the memory that a history leaves. Assumes nothing.
-use Rattle.std.proofs.Common.{◌≡◌, ℕ, ◌<◌, ◌≤◌, not, ◌||◌, eqb, ltb, List, map, length, Ok, Err, Result, sym, refl, ap, ◌∙◌, inl, inr, arith, lit≤}
-use Rattle.std.proofs.lemmas.List.FromFn.{length-map-range_with_len, get_or-map-range_with_len}
-use Rattle.std.proofs.lemmas.List.{ext_get_or}
+use Rattle.std.proofs.Common.{◌≡◌, ℕ, ◌≤◌, not, eqb, List, map, length, Ok, Err, Result, sym, refl, ap, ◌∙◌, inl, inr, arith, lit≤}
 use Rattle.std.proofs.lemmas.Bool.Decides.{nat_tests}
-use Rattle.std.proofs.lemmas.Bool.{cases_eq, cond-true, cond-false, eq-eqb, ne_eqb, or_from, le-ltb, not_from_true, not_from_false}
+use Rattle.std.proofs.lemmas.Bool.{cases_eq, cond-true, cond-false, eq-eqb, ne_eqb, not_from_true, not_from_false}
 use Rattle.std.specs.List.{range_with_len}
-use Rattle.kind.specs.Answers.{and_then, refuse_if, refused_as, kept}
+use Rattle.kind.specs.Answers.{and_then, refused_as, kept}
 use Rattle.kind.specs.Model.{Model, Laws}
 use Rattle.volume.specs.Checks.{judged, before_wrong, noted, workable, checked, work_after}
 use Rattle.volume.specs.Memory.{Memory}
 use Rattle.volume.specs.Sizes.{sized, sound}
 use Rattle.volume.specs.declared.refusal.Refusal.{Refusal}
-use Rattle.volume.specs.declared.refusal.Refusal.TheVariants.{Cells, Heads, Capacity, Unsound}
+use Rattle.volume.specs.declared.refusal.Refusal.TheVariants.{Heads, Unsound}
 use Rattle.history.specs.Calls.{Reply, row, refused, reply, check, replied, predicted}
 use Rattle.history.specs.History.{History, last_entry}
 use Rattle.history.specs.Soundness.{CountsAs}

@@ -2,9 +2,9 @@
 use Rattle.std.proofs.Common.{◌≡◌, ℕ, zero, suc, ◌+◌, Bool, true, false, cond, eqb, ltb, List, [], ◌∷◌, ◌++◌, length, take, sym, refl, ap, ◌∙◌, inl, inr, arith, length-append}
 use Rattle.std.proofs.lemmas.List.{append_assoc, append-nil}
 use Rattle.std.proofs.lemmas.Bool.Decides.{nat_tests}
-use Rattle.std.proofs.lemmas.Bool.{cases_Bool, cases_lt, cond-true, cond-false, eqb-true, lt-ltb, le-ltb}
+use Rattle.std.proofs.lemmas.Bool.{cases_Bool, cond-true, cond-false, eqb-true}
 use Rattle.kind.specs.Model.{Model, Laws}
-use Rattle.logs.specs.Writes.{Write, head_after, head_of, change_to, changes_to, composed, writes_to}
+use Rattle.logs.specs.Writes.{Write, head_of, change_to, changes_to, composed, writes_to}
 use Rattle.logs.proofs.Algebra.{composed_append, onward, onward_reaches}
 use Rattle.logs.proofs.Counted.{total}
 use Rattle.history.specs.History.{Entry, latest, last_number, entries_of}

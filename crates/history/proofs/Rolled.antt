@@ -1,7 +1,7 @@
 -- What roll answers on the memory that a history leaves. Assumes nothing.
 use Rattle.std.proofs.Common.{◌≡◌, ℕ, ◌<◌, ◌≤◌, Bool, cond, not, ◌||◌, eqb, ltb, List, map, length, get_or, Ok, Err, Result, sym, refl, ap, ◌∙◌, arith}
 use Rattle.std.proofs.lemmas.List.FromFn.{length-map-range_with_len, get_or-map-range_with_len}
-use Rattle.std.proofs.lemmas.List.{ext_get_or, get_or-map, length-map}
+use Rattle.std.proofs.lemmas.List.{get_or-map, length-map}
 use Rattle.std.proofs.lemmas.Bool.{cond-false, or_from, eq-eqb, eqb-true, le-ltb, not_from_true, not-false}
 use Rattle.std.specs.List.{range_with_len}
 use Rattle.kind.specs.Answers.{and_then, each_below, refuse_if, refused_as}

@@ -1,7 +1,7 @@
 -- What format and write make of the memory that a history leaves. Assumes nothing.
-use Rattle.std.proofs.Common.{◌≡◌, ℕ, ◌+◌, ◌<◌, ◌≤◌, cond, eqb, leb, List, [], ◌∷◌, ◌++◌, length, get_or, take, set, Ok, Err, Result, sym, ap, ◌∙◌, inl, inr, arith}
-use Rattle.std.proofs.lemmas.List.{get_or-set_same, get_or-set_other, length-set, length_push, take_more_set}
-use Rattle.std.proofs.lemmas.Bool.{cases_eq, cond-true, cond-false, eq-eqb, ne_eqb, le-leb, lt-leb}
+use Rattle.std.proofs.Common.{◌≡◌, ℕ, ◌+◌, ◌<◌, ◌≤◌, cond, eqb, leb, List, [], ◌∷◌, ◌++◌, length, get_or, take, set, Ok, Err, Result, sym, ap, ◌∙◌, arith}
+use Rattle.std.proofs.lemmas.List.{length-set, length_push, take_more_set}
+use Rattle.std.proofs.lemmas.Bool.{cond-true, cond-false, le-leb, lt-leb}
 use Rattle.kind.specs.Answers.{and_then, refuse_if, refused_as}
 use Rattle.kind.specs.Model.{Model, Laws}
 use Rattle.journal.specs.declared.record.Record.{Record}
@@ -14,7 +14,7 @@ use Rattle.volume.specs.Memory.{Memory, memory}
 use Rattle.volume.specs.Sizes.{sized}
 use Rattle.volume.specs.declared.refusal.Refusal.{Refusal}
 use Rattle.volume.specs.declared.refusal.Refusal.TheVariants.{Cell, Full, Ladder}
-use Rattle.history.specs.History.{History, Entry, count, appended, latest}
+use Rattle.history.specs.History.{History, Entry, count, appended}
 use Rattle.history.proofs.Canonical.{Sizes, sized_ok, sized_only, owned_append, Canonical, sound_is, writes_few}
 use Rattle.history.proofs.Images.{set_read}
 use Rattle.history.proofs.Results.{then_ok}
