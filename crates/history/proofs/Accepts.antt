@@ -11,6 +11,7 @@ use Rattle.journal.specs.declared.walk.Stretch.{Stretch}
 use Rattle.journal.specs.Appends.{planned}
 use Rattle.journal.specs.Links.{numbered}
 use Rattle.journal.specs.Spans.{spanned}
+use Rattle.logs.proofs.Related.{Related}
 use Rattle.volume.specs.Calls.{origin}
 use Rattle.volume.specs.Checks.{newest_to, as_planned, right_record, record_right, head_right, as_changed, cell_right, judged, checked}
 use Rattle.volume.specs.Memory.{Memory}
@@ -20,9 +21,10 @@ use Rattle.volume.specs.declared.refusal.Refusal.TheVariants.{Unsound}
 use Rattle.volume.specs.declared.refusal.Wrong.TheVariants.{Record as WrongRecord, Head as WrongHead, Cell as WrongCell}
 use Rattle.history.specs.History.{History, count}
 use Rattle.history.specs.Soundness.{Alike, CountsAs}
-use Rattle.history.proofs.Alikes.{Related, AlikeStretch, planned_alike, spanned_alike}
+use Rattle.history.proofs.Alikes.{AlikeStretch, planned_alike, spanned_alike}
 use Rattle.history.proofs.Canonical.{Sizes, sized_ok, sound_ok, Canonical}
-use Rattle.history.proofs.Checked.{newest_all, record_plan, record_low, cell_made}
+use Rattle.history.proofs.Newest.{newest_all, record_plan, record_low, cell_made}
+use Rattle.history.proofs.Results.{from_first}
 use Rattle.history.proofs.Spanned.{got, spans}
 
 module _ {PS PC : Type 0} (K : Model PS PC) (L : Laws K) where
@@ -57,10 +59,7 @@ module _ {PS PC : Type 0} (K : Model PS PC) (L : Laws K) where
 
     -- record m, for m up to the count
     alike : (m : ℕ) → 1 ≤ m → m ≤ v.count → Alike K (numbered K v.records m) (numbered K w.records m)
-    alike zero l low = absurd (omega arith)
-    alike (suc m) l low =
-        let one : m + 1 ≡ suc m = omega arith in
-        subst (λ k. Alike K (numbered K v.records k) (numbered K w.records k)) one (A.records m (omega arith))
+    alike m l low = from_first (λ k. Alike K (numbered K v.records k) (numbered K w.records k)) v.count A.records m l low
 
     newest_same : (m : ℕ) → m ≤ v.count → newest_to K n v.records m ≡ newest_to K (length w.cells) w.records m
     newest_same zero l = ap (λ k. newest_to K k v.records zero) size
@@ -115,10 +114,12 @@ module _ {PS PC : Type 0} (K : Model PS PC) (L : Laws K) where
         let right : as_changed K s mine ≡ true = changed_alike s mine (got K L C c in' 0 w.count) both (cell_made K L C c in' ∙ same) in
         cond-false (not (as_changed K s mine)) (Err (WrongCell c)) (Ok tt) (not_from_true (as_changed K s mine) right)
 
+    pub records_fine : each_below (record_right K n v.records) v.count ≡ Ok tt
+    records_fine = each_ok (record_right K n v.records) v.count (λ i l. (tt, record_fine i l))
+
     fine : judged K v ≡ Ok tt
     fine =
-        ap (λ r. and_then r (λ _. and_then (each_below (head_right K (newest_to K n v.records v.count) v.heads) n) (λ _. each_below (cell_right K v) n)))
-        (each_ok (record_right K n v.records) v.count (λ i l. (tt, record_fine i l)))
+        ap (λ r. and_then r (λ _. and_then (each_below (head_right K (newest_to K n v.records v.count) v.heads) n) (λ _. each_below (cell_right K v) n))) records_fine
         ∙ ap (λ r. and_then r (λ _. each_below (cell_right K v) n)) (each_ok (head_right K (newest_to K n v.records v.count) v.heads) n (λ c l. (tt, head_fine c l)))
         ∙ each_ok (cell_right K v) n (λ c l. (tt, cell_fine c l))
 

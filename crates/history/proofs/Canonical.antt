@@ -1,7 +1,8 @@
 -- The memory that a history leaves, up to what the cells are taken for and to what lies beyond the count. Assumes nothing.
-use Rattle.std.proofs.Common.{◌≡◌, ℕ, ◌<◌, ◌≤◌, not, ◌||◌, eqb, ltb, ◌⊎◌, List, [], ◌∷◌, ◌++◌, length, get_or, replicate, Ok, Err, sym, refl, ap, ◌∙◌, subst, inl, inr, arith}
-use Rattle.std.proofs.lemmas.List.{get_or-replicate, length-replicate}
-use Rattle.std.proofs.lemmas.Bool.{cases_Bool, cond-true, cond-false, or_from, or_parts, eqb-true, eqb-false, eq-eqb, ne_eqb, le-ltb, ltb-false, not-false, not_from_true}
+use Rattle.std.proofs.Common.{◌≡◌, ℕ, ◌<◌, ◌≤◌, not, ◌||◌, eqb, ltb, List, [], ◌∷◌, ◌++◌, length, get_or, replicate, Ok, Err, sym, refl, ap, ◌∙◌, subst, arith}
+use Rattle.std.proofs.lemmas.List.{get_or-replicate, length-replicate, take_all}
+use Rattle.std.proofs.lemmas.Bool.Decides.{nat_tests}
+use Rattle.std.proofs.lemmas.Bool.{cond-false, or_parts, eqb-true, eqb-false, le-ltb, ltb-false, not-false}
 use Rattle.kind.specs.Answers.{and_then, refuse_if}
 use Rattle.kind.specs.Model.{Model, Laws}
 use Rattle.logs.specs.Theorems.{Logs}
@@ -9,11 +10,11 @@ use Rattle.logs.specs.Writes.{head_of}
 use Rattle.volume.specs.Calls.{origin, emptied}
 use Rattle.volume.specs.Memory.{Memory}
 use Rattle.volume.specs.Sizes.{sized, sound}
-use Rattle.volume.specs.declared.refusal.Refusal.{Refusal}
 use Rattle.volume.specs.declared.refusal.Refusal.TheVariants.{Cells, Heads, Capacity, Count}
-use Rattle.history.specs.History.{History, Entry, count, latest}
+use Rattle.history.specs.History.{History, Entry, count, latest, stood}
 use Rattle.history.specs.Promises.{fresh}
-use Rattle.history.proofs.Entered.{writes}
+use Rattle.history.proofs.Entered.{writes, writes_length}
+use Rattle.history.proofs.Results.{then_ok, test_ok}
 
 -- sizes that are accepted
 pub record Sizes (cells heads capacity : ℕ) : Type 0 where
@@ -23,41 +24,29 @@ pub record Sizes (cells heads capacity : ℕ) : Type 0 where
   pub few_records : capacity ≤ 65535
 
 pub sized_ok : {a b c : ℕ} → Sizes a b c → sized a b c ≡ Ok tt
-sized_ok {a} {b} {c} z =
-    cond-false (eqb a 0 || ltb 4096 a) (Err Cells) (refuse_if (not (eqb b a)) Heads (refuse_if (ltb 65535 c) Capacity (Ok tt)))
-    (or_from (eqb a 0) (ltb 4096 a) (ne_eqb a 0 (λ e. omega (arith, z.some_cells))) (le-ltb 4096 a z.few_cells))
-    ∙ cond-false (not (eqb b a)) (Err Heads) (refuse_if (ltb 65535 c) Capacity (Ok tt)) (not_from_true (eqb b a) (eq-eqb b a z.even))
-    ∙ cond-false (ltb 65535 c) (Err Capacity) (Ok tt) (le-ltb 65535 c z.few_records)
+sized_ok {a} {b} {c} z = grind (arith, nat_tests)
 
 pub sound_ok : {a b c n : ℕ} → Sizes a b c → n ≤ c → sound a b c n ≡ Ok tt
-sound_ok {a} {b} {c} {n} z h =
-    ap (λ r. and_then r (λ _. refuse_if (ltb c n) Count (Ok tt))) (sized_ok z) ∙ cond-false (ltb c n) (Err Count) (Ok tt) (le-ltb c n h)
+sound_ok {a} {b} {c} {n} z h = ap (λ r. and_then r (λ _. refuse_if (ltb c n) Count (Ok tt))) (sized_ok z) ∙ cond-false (ltb c n) (Err Count) (Ok tt) (le-ltb c n h)
 
--- .. and those that are not
-pub sized_cases : (a b c : ℕ) → Sizes a b c ⊎ ((e : Refusal) × (sized a b c ≡ Err e))
-sized_cases a b c =
-    elim (cases_Bool (eqb a 0 || ltb 4096 a)) [
-      | inl t ↦ inr (Cells, cond-true (eqb a 0 || ltb 4096 a) (Err Cells) (refuse_if (not (eqb b a)) Heads (refuse_if (ltb 65535 c) Capacity (Ok tt))) t)
-      | inr f ↦
-          (let first = cond-false (eqb a 0 || ltb 4096 a) (Err Cells) (refuse_if (not (eqb b a)) Heads (refuse_if (ltb 65535 c) Capacity (Ok tt))) f in
-          elim (cases_Bool (not (eqb b a))) [
-            | inl t ↦ inr (Heads, first ∙ cond-true (not (eqb b a)) (Err Heads) (refuse_if (ltb 65535 c) Capacity (Ok tt)) t)
-            | inr g ↦
-                (let second = first ∙ cond-false (not (eqb b a)) (Err Heads) (refuse_if (ltb 65535 c) Capacity (Ok tt)) g in
-                elim (cases_Bool (ltb 65535 c)) [
-                  | inl t ↦ inr (Capacity, second ∙ cond-true (ltb 65535 c) (Err Capacity) (Ok tt) t)
-                  | inr k ↦
-                      (let parts = or_parts (eqb a 0) (ltb 4096 a) f in
-                      let none : a ≡ 0 → ⊥ = eqb-false a 0 parts.0 in
-                      inl (record {
-                        some_cells = omega (arith, none);
-                        few_cells = ltb-false 4096 a parts.1;
-                        even = eqb-true b a (not-false (eqb b a) g);
-                        few_records = ltb-false 65535 c k;
-                      }))
-                ])
-          ])
-    ]
+-- .. are the only ones
+pub sized_only : (a b c : ℕ) (x : Unit {0}) → sized a b c ≡ Ok x → Sizes a b c
+sized_only a b c x e =
+    let p = test_ok (eqb a 0 || ltb 4096 a) Cells (refuse_if (not (eqb b a)) Heads (refuse_if (ltb 65535 c) Capacity (Ok tt))) x e in
+    let q = test_ok (not (eqb b a)) Heads (refuse_if (ltb 65535 c) Capacity (Ok tt)) x p.1 in
+    let r = test_ok (ltb 65535 c) Capacity (Ok tt) x q.1 in
+    let parts = or_parts (eqb a 0) (ltb 4096 a) p.0 in
+    record {
+      some_cells = omega (arith, eqb-false a 0 parts.0);
+      few_cells = ltb-false 4096 a parts.1;
+      even = eqb-true b a (not-false (eqb b a) q.0);
+      few_records = ltb-false 65535 c r.0;
+    }
+
+pub sound_only : (a b c n : ℕ) (x : Unit {0}) → sound a b c n ≡ Ok x → Sizes a b c × (n ≤ c)
+sound_only a b c n x e =
+    let (y, p, q) = then_ok (sized a b c) (λ _. refuse_if (ltb c n) Count (Ok tt)) x e in
+    (sized_only a b c y p, ltb-false c n (test_ok (ltb c n) Count (Ok tt) x q).0)
 
 -- every entry is of one of n cells
 abbrev pub Owned : {S : Type 0} → ℕ → List (Entry S) → Type 0
@@ -86,6 +75,13 @@ module _ {PS PC : Type 0} (K : Model PS PC) where
 
   pub sound_is : {h : History K.State} {v : Memory PS PC} → Canonical h v → sound (length v.cells) (length v.heads) (length v.records) v.count ≡ Ok tt
   sound_is {h} {v} C = sound_ok C.sizes (omega (arith, C.counts, C.fits, C.all_records))
+
+  pub writes_few : {h : History K.State} {v : Memory PS PC} → Canonical h v → length (writes K h.entries) ≤ 65535
+  writes_few {h} {v} C = omega (arith, writes_length K h.entries, C.fits, C.all_records, C.sizes.few_records)
+
+  -- the present
+  pub present : (h : History K.State) (c : ℕ) → stood K h c (count h) ≡ latest K.origin c h.entries
+  present h c = ap (latest K.origin c) (take_all (count h) h.entries (omega arith))
 
   -- what a format leaves
   pub blank_canonical : Laws K → (m : Memory PS PC) → Sizes (length m.cells) (length m.heads) (length m.records) →

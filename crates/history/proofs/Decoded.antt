@@ -17,7 +17,7 @@ use Rattle.history.specs.Files.{line, lines_on, entry_read, entries_read}
 use Rattle.history.specs.History.{Entry, latest, last_number}
 use Rattle.history.proofs.Filed.{lines_append, lines_length}
 use Rattle.history.proofs.Loaded.{Passed, entries_length}
-use Rattle.history.proofs.Rebuilt.{then_ok, test_ok, as_ok}
+use Rattle.history.proofs.Results.{then_ok, test_ok, as_ok}
 
 byte : (x : ℕ) (xs : List ℕ) → bytes? (x ∷ xs) ≡ true → (x < 256) × (bytes? xs ≡ true)
 byte x xs t = let p = and_parts (ltb x 256) (bytes? xs) t in (ltb-true x 256 p.0, p.1)

@@ -1,9 +1,10 @@
 -- The writes that a history's entries amount to, and what they come to. Assumes nothing.
-use Rattle.std.proofs.Common.{◌≡◌, ℕ, zero, suc, ◌+◌, Bool, cond, eqb, ltb, List, [], ◌∷◌, ◌++◌, length, take, sym, refl, ap, ◌∙◌, inl, inr, arith, length-append}
+use Rattle.std.proofs.Common.{◌≡◌, ℕ, zero, suc, ◌+◌, Bool, true, false, cond, eqb, ltb, List, [], ◌∷◌, ◌++◌, length, take, sym, refl, ap, ◌∙◌, inl, inr, arith, length-append}
 use Rattle.std.proofs.lemmas.List.{append_assoc, append-nil}
-use Rattle.std.proofs.lemmas.Bool.{cases_Bool, cases_lt, cond-true, cond-false, eqb-true, lt-ltb, le-ltb}
+use Rattle.std.proofs.lemmas.Bool.Decides.{nat_tests}
+use Rattle.std.proofs.lemmas.Bool.{cases_Bool, cond-true, cond-false, eqb-true}
 use Rattle.kind.specs.Model.{Model, Laws}
-use Rattle.logs.specs.Writes.{Write, head_after, head_of, change_to, changes_to, composed, writes_to}
+use Rattle.logs.specs.Writes.{Write, head_of, change_to, changes_to, composed, writes_to}
 use Rattle.logs.proofs.Algebra.{composed_append, onward, onward_reaches}
 use Rattle.logs.proofs.Counted.{total}
 use Rattle.history.specs.History.{Entry, latest, last_number, entries_of}
@@ -12,6 +13,17 @@ use Rattle.history.specs.History.{Entry, latest, last_number, entries_of}
 pub latest_append : {S : Type 0} (s : S) (c : ℕ) (xs ys : List (Entry S)) → latest s c (xs ++ ys) ≡ latest (latest s c xs) c ys
 latest_append s c [] ys = refl
 latest_append s c (x ∷ xs) ys = latest_append (cond (eqb x.cell c) x.state s) c xs ys
+
+pub last_append : {S : Type 0} (before found c : ℕ) (xs ys : List (Entry S)) → last_number before found c (xs ++ ys) ≡ last_number (before + length xs) (last_number before found c xs) c ys
+last_append before found c [] ys = (let z : before ≡ before + 0 = omega arith in ap (λ k. last_number k found c ys) z)
+last_append before found c (x ∷ xs) ys =
+    let z : before + 1 + length xs ≡ before + suc (length xs) = omega arith in
+    last_append (before + 1) (cond (eqb x.cell c) (before + 1) found) c xs ys ∙ ap (λ k. last_number k (last_number before found c (x ∷ xs)) c ys) z
+
+-- a choice between two values goes through f
+pub through : {A B : Type 0} (f : A → B) (t : Bool) (x y : A) → f (cond t x y) ≡ cond t (f x) (f y)
+through f true x y = refl
+through f false x y = refl
 
 module _ {PS PC : Type 0} (K : Model PS PC) where
   -- the write that makes entry e after the entries `past`
@@ -51,11 +63,7 @@ module _ {PS PC : Type 0} (K : Model PS PC) where
   count_on c past [] = refl
   count_on c past (e ∷ es) =
       let w : Write PC = write_of past e in
-      let here : Bool = eqb e.cell c in
-      let one : length (change_to K c w) ≡ cond here 1 0 = elim (cases_Bool here) [
-        | inl t ↦ ap length (cond-true here (K.change w.change ∷ []) [] t) ∙ sym (cond-true here 1 0 t)
-        | inr t ↦ ap length (cond-false here (K.change w.change ∷ []) [] t) ∙ sym (cond-false here 1 0 t)
-      ] in
+      let one : length (change_to K c w) ≡ cond (eqb e.cell c) 1 0 = through length (eqb e.cell c) (K.change w.change ∷ []) [] in
       omega (arith, one, length-append (change_to K c w) (changes_to K c (writes_on (past ++ e ∷ []) es)), count_on c (past ++ e ∷ []) es)
 
   pub writes_count : (es : List (Entry K.State)) (c : ℕ) → writes_to K (writes es) c ≡ entries_of c es
@@ -65,35 +73,11 @@ module _ {PS PC : Type 0} (K : Model PS PC) where
       last_number before found c es ≡ cond (ltb 0 (head_of (writes_on past es) c)) (before + head_of (writes_on past es) c) found
   last_on c before found past [] = refl
   last_on c before found past (e ∷ es) =
-      let here : Bool = eqb e.cell c in
-      let h : ℕ = head_of (writes_on (past ++ e ∷ []) es) c in
-      let H : ℕ = head_after here h in
-      last_on c (before + 1) (cond here (before + 1) found) (past ++ e ∷ []) es
-      ∙ elim (cases_lt 0 h) [
-        | inl l ↦
-            (let e' : H ≡ h + 1 = cond-true (ltb 0 h) (h + 1) (cond here 1 0) (lt-ltb 0 h l) in
-            cond-true (ltb 0 h) (before + 1 + h) (cond here (before + 1) found) (lt-ltb 0 h l)
-            ∙ omega (arith, e') ∙ sym (cond-true (ltb 0 H) (before + H) found (lt-ltb 0 H (omega arith))))
-        | inr o ↦
-            (let e' : H ≡ cond here 1 0 = cond-false (ltb 0 h) (h + 1) (cond here 1 0) (le-ltb 0 h o) in
-            cond-false (ltb 0 h) (before + 1 + h) (cond here (before + 1) found) (le-ltb 0 h o)
-            ∙ elim (cases_Bool here) [
-              | inl t ↦
-                  (let one : H ≡ 1 = e' ∙ cond-true here 1 0 t in
-                  cond-true here (before + 1) found t ∙ omega (arith, one) ∙ sym (cond-true (ltb 0 H) (before + H) found (lt-ltb 0 H (omega arith))))
-              | inr t ↦
-                  (let none : H ≡ 0 = e' ∙ cond-false here 1 0 t in
-                  cond-false here (before + 1) found t ∙ sym (cond-false (ltb 0 H) (before + H) found (le-ltb 0 H (omega arith))))
-            ])
-      ]
+      let rest = last_on c (before + 1) (cond (eqb e.cell c) (before + 1) found) (past ++ e ∷ []) es in
+      grind (arith, nat_tests)
 
   pub writes_head : (es : List (Entry K.State)) (c : ℕ) → head_of (writes es) c ≡ last_number 0 0 c es
-  writes_head es c =
-      let h : ℕ = head_of (writes es) c in
-      sym (last_on c 0 0 [] es ∙ elim (cases_lt 0 h) [
-        | inl l ↦ cond-true (ltb 0 h) (0 + h) 0 (lt-ltb 0 h l) ∙ omega arith
-        | inr o ↦ cond-false (ltb 0 h) (0 + h) 0 (le-ltb 0 h o) ∙ omega arith
-      ])
+  writes_head es c = (let all = last_on c 0 0 [] es in grind (arith, nat_tests))
 
   -- acting with all of them
   module _ (L : Laws K) where

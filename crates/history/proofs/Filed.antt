@@ -1,7 +1,7 @@
 -- What save answers on the memory that a history leaves: the file of the history. Assumes nothing.
-use Rattle.std.proofs.Common.{◌≡◌, ℕ, zero, suc, ◌+◌, ◌-◌, ◌<◌, ◌≤◌, ltb, List, [], ◌∷◌, ◌++◌, map, length, get_or, take, Ok, Err, Result, sym, refl, ap, ◌∙◌, inl, inr, arith}
+use Rattle.std.proofs.Common.{◌≡◌, ℕ, zero, suc, ◌+◌, ◌-◌, ◌≤◌, ltb, List, [], ◌∷◌, ◌++◌, map, length, get_or, take, Ok, Err, Result, sym, refl, ap, ◌∙◌, arith}
 use Rattle.std.proofs.lemmas.List.{append-nil, append_assoc, take_all, take_more, map-append}
-use Rattle.std.proofs.lemmas.Bool.{cases_lt, cond-true, cond-false, lt-ltb, le-ltb}
+use Rattle.std.proofs.lemmas.Bool.{cond-false, le-ltb}
 use Rattle.kind.specs.Answers.{and_then, each_below, refuse_if, refused_as}
 use Rattle.kind.specs.Model.{Model, Laws}
 use Rattle.file.specs.Forms.{Line, file_form}
@@ -13,13 +13,14 @@ use Rattle.volume.specs.Replays.{cell_known}
 use Rattle.volume.specs.Saves.{line_of, lines_of, file_of, saved}
 use Rattle.volume.specs.declared.refusal.Refusal.{Refusal}
 use Rattle.volume.specs.declared.refusal.Refusal.TheVariants.{Area, Ladder}
-use Rattle.history.specs.Calls.{Reply, bytes, refused, reply, save, replied, predicted}
+use Rattle.history.specs.Calls.{bytes, reply, save, replied, predicted}
 use Rattle.history.specs.Files.{line, lines_on, file_of_history}
 use Rattle.history.specs.History.{History, Entry, count}
 use Rattle.history.proofs.Canonical.{Canonical, sound_is}
 use Rattle.history.proofs.Entered.{writes_head}
 use Rattle.history.proofs.Nth.{Nth, nth}
 use Rattle.history.proofs.Replayed.{known}
+use Rattle.history.proofs.Results.{test_ok, reply_if}
 
 module _ {PS PC : Type 0} (K : Model PS PC) where
   pub lines_append : (past xs ys : List (Entry K.State)) → lines_on K past (xs ++ ys) ≡ lines_on K past xs ++ lines_on K (past ++ xs) ys
@@ -77,22 +78,11 @@ module _ {PS PC : Type 0} (K : Model PS PC) where
       pub save_made : file_length K.width (count h) ≤ area → saved K v area ≡ Ok (file_of_history K h)
       save_made l = checked ∙ cond-false (ltb area (file_length K.width (count h))) (Err Area) (Ok (file_of_history K h)) (le-ltb area (file_length K.width (count h)) l)
 
-      save_short : area < file_length K.width (count h) → saved K v area ≡ Err Area
-      save_short l = checked ∙ cond-true (ltb area (file_length K.width (count h))) (Err Area) (Ok (file_of_history K h)) (lt-ltb area (file_length K.width (count h)) l)
-
       -- whatever is saved is that file
       pub save_only : (f : List ℕ) → saved K v area ≡ Ok f → file_of_history K h ≡ f
-      save_only f e =
-          elim (cases_lt area (file_length K.width (count h))) [
-            | inl l ↦ (let never : ◌≡◌ {A = Result (List ℕ) Refusal} (Err Area) (Ok f) = sym (save_short l) ∙ e in let z : ◌≡◌ {A = ℕ} 0 1 = cc in absurd (omega arith))
-            | inr l ↦ (let same : ◌≡◌ {A = Result (List ℕ) Refusal} (Ok (file_of_history K h)) (Ok f) = sym (save_made l) ∙ e in cc)
-          ]
+      save_only f e = let same = (test_ok (ltb area (file_length K.width (count h))) Area (Ok (file_of_history K h)) f (sym checked ∙ e)).1 in cc
 
       pub save_told : replied K v (save area) ≡ predicted K h (save area)
       save_told =
-          let R : Type 0 = Reply K.State K.Change in
-          let there : R = bytes (file_of_history K h) in
-          elim (cases_lt area (file_length K.width (count h))) [
-            | inl l ↦ ap (reply bytes) (save_short l) ∙ sym (cond-true (ltb area (file_length K.width (count h))) (refused Area) there (lt-ltb area (file_length K.width (count h)) l))
-            | inr l ↦ ap (reply bytes) (save_made l) ∙ sym (cond-false (ltb area (file_length K.width (count h))) (refused Area) there (le-ltb area (file_length K.width (count h)) l))
-          ]
+          ap (reply bytes) checked
+          ∙ reply_if (reply {S = K.State} {C = K.Change} bytes) (ltb area (file_length K.width (count h))) Area (Ok (file_of_history K h)) (bytes (file_of_history K h)) refl (λ _. refl)

@@ -24,12 +24,12 @@ use Rattle.history.specs.Filing.{SavedAfterWrites, Loads, FilesThatLoad}
 use Rattle.history.specs.History.{History, Entry, count, appended}
 use Rattle.history.specs.Promises.{fresh}
 use Rattle.history.specs.Soundness.{Asked, asks}
-use Rattle.history.proofs.Canonical.{Owned, Canonical, blank_canonical}
+use Rattle.history.proofs.Canonical.{sized_only, Owned, Canonical, blank_canonical}
 use Rattle.history.proofs.Decoded.{file_back}
 use Rattle.history.proofs.Filed.{lines_length, save_made, save_only}
 use Rattle.history.proofs.Loaded.{passed, with_entries, Tells, all_tell, heads_tell, count_fits, entries_length}
 use Rattle.history.proofs.Promised.{keeps_all}
-use Rattle.history.proofs.Rebuilt.{then_ok, as_ok, sized_only}
+use Rattle.history.proofs.Results.{then_ok, as_ok}
 use Rattle.history.proofs.Recalled.{Fit, fit, header_is, entries_back}
 use Rattle.history.proofs.Written.{formats, formats_only}
 

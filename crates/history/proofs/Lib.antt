@@ -7,12 +7,15 @@ pub mod Entered
 pub mod Figures
 pub mod Filed
 pub mod Filings
+pub mod Images
 pub mod Loaded
+pub mod Newest
 pub mod Nth
 pub mod Promised
 pub mod Rebuilt
 pub mod Recalled
 pub mod Replayed
+pub mod Results
 pub mod Reverted
 pub mod Rolled
 pub mod Sound

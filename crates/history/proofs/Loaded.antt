@@ -1,7 +1,7 @@
 -- What load makes of the memory that a history leaves. Assumes nothing.
-use Rattle.std.proofs.Common.{◌≡◌, ℕ, zero, suc, ◌+◌, ◌<◌, ◌≤◌, false, not, ◌||◌, eqb, ltb, leb, List, [], ◌∷◌, ◌++◌, length, get_or, Some, Ok, Err, Option, Result, sym, refl, ap, ◌∙◌, subst, inl, inr, arith}
+use Rattle.std.proofs.Common.{◌≡◌, ℕ, zero, suc, ◌+◌, ◌<◌, ◌≤◌, Bool, true, false, not, ◌||◌, eqb, ltb, leb, List, [], ◌∷◌, ◌++◌, length, get_or, Some, Ok, Err, Option, Result, sym, refl, ap, ◌∙◌, subst, arith}
 use Rattle.std.proofs.lemmas.List.{length_push}
-use Rattle.std.proofs.lemmas.Bool.{cases_lt, cases_eq, or_parts, eq-eqb, ne_eqb, le-leb, lt-leb, ltb-false, not_from_true, not_from_false}
+use Rattle.std.proofs.lemmas.Bool.{or_parts, leb-false, ltb-false}
 use Rattle.kind.specs.Answers.{and_then, refuse_if, refused_as, kept}
 use Rattle.kind.specs.Model.{Model, Laws}
 use Rattle.file.specs.declared.faults.FileFault.{FileFault}
@@ -24,9 +24,9 @@ use Rattle.history.specs.Calls.{Reply, counted, refused, reply, load, run, refil
 use Rattle.history.specs.Files.{entry_read, entries_read, header_read}
 use Rattle.history.specs.History.{History, Entry, count, appended, latest, last_number}
 use Rattle.history.specs.Promises.{fresh}
-use Rattle.history.proofs.Canonical.{Sizes, sized_ok, Canonical, blank_canonical, empty_canonical}
+use Rattle.history.proofs.Canonical.{Sizes, sized_ok, sized_only, Canonical, blank_canonical, empty_canonical}
 use Rattle.history.proofs.Entered.{writes_head}
-use Rattle.history.proofs.Rebuilt.{then_ok, test_ok, as_ok, sized_only}
+use Rattle.history.proofs.Results.{then_ok, test_ok, as_ok}
 use Rattle.history.proofs.Written.{moved, tried_taken, after, write_canonical}
 
 -- the tests that an accepted header passed
@@ -61,6 +61,12 @@ module _ {PS PC : Type 0} (K : Model PS PC) (L : Laws K) where
   Tells h (Ok es) (Err r) = ⊥
   Tells h (Err e) (Ok w) = ⊥
   Tells h (Err e) (Err r) = File e ≡ r
+
+  -- a test that both make
+  tells_if : (h : History K.State) (t t' : Bool) (e : FileFault) (r : Result (List (Entry K.State)) FileFault) (r' : Result (Memory PS PC) Refusal) →
+      t ≡ t' → (t ≡ false → Tells h r r') → Tells h (refuse_if t e r) (refuse_if t' (File e) r')
+  tells_if h true t' e r r' s k = subst (λ b. Tells h (Err e) (refuse_if b (File e) r')) s refl
+  tells_if h false t' e r r' s k = subst (λ b. Tells h r (refuse_if b (File e) r')) s (k refl)
 
   -- one change entered
   module _ {h : History K.State} {w : Memory PS PC} (C : Canonical K h w) (c : ℕ) (in' : c < h.cells) (some : count h < h.capacity) (g : K.Change) where
@@ -117,26 +123,12 @@ module _ {PS PC : Type 0} (K : Model PS PC) (L : Laws K) where
 
     nexts_tell : c < h.cells → Tells h (refuse_if (not (eqb p.next (last_number 0 0 c es))) (Next n) tested) (refuse_if (not (eqb p.next (get_or w.heads c 0))) (File (Next n)) tested')
     nexts_tell in' =
-        let head : get_or w.heads c 0 ≡ last_number 0 0 c es = C.heads c in' ∙ writes_head K es c in
-        subst (λ x. Tells h (refuse_if (not (eqb p.next (last_number 0 0 c es))) (Next n) tested) (refuse_if (not (eqb p.next x)) (File (Next n)) tested')) (sym head)
-        (elim (cases_eq p.next (last_number 0 0 c es)) [
-          | inl e ↦
-              (let t = not_from_true (eqb p.next (last_number 0 0 c es)) (eq-eqb p.next (last_number 0 0 c es) e) in
-              subst (λ b. Tells h (refuse_if b (Next n) tested) (refuse_if b (File (Next n)) tested')) (sym t) (changes_tell in' (change_read K n p.change)))
-          | inr e ↦
-              (let t = not_from_false (eqb p.next (last_number 0 0 c es)) (ne_eqb p.next (last_number 0 0 c es) e) in
-              subst (λ b. Tells h (refuse_if b (Next n) tested) (refuse_if b (File (Next n)) tested')) (sym t) refl)
-        ])
+        tells_if h (not (eqb p.next (last_number 0 0 c es))) (not (eqb p.next (get_or w.heads c 0))) (Next n) tested tested'
+        (ap (λ k. not (eqb p.next k)) (sym (C.heads c in' ∙ writes_head K es c))) (λ _. changes_tell in' (change_read K n p.change))
 
     takes_tell : Tells h (entry_read K h.cells n p es) (took_parts K w n p)
     takes_tell =
-        let rest : Result (List (Entry K.State)) FileFault = refuse_if (not (eqb p.next (last_number 0 0 c es))) (Next n) tested in
-        let rest' : Result (Memory PS PC) Refusal = refuse_if (not (eqb p.next (get_or w.heads c 0))) (File (Next n)) tested' in
-        subst (λ k. Tells h (entry_read K h.cells n p es) (refuse_if (leb k c) (File (Cell n)) rest')) (sym C.all_cells)
-        (elim (cases_lt c h.cells) [
-          | inl in' ↦ subst (λ b. Tells h (refuse_if b (Cell n) rest) (refuse_if b (File (Cell n)) rest')) (sym (lt-leb h.cells c in')) (nexts_tell in')
-          | inr out ↦ subst (λ b. Tells h (refuse_if b (Cell n) rest) (refuse_if b (File (Cell n)) rest')) (sym (le-leb h.cells c out)) refl
-        ])
+        tells_if h (leb h.cells c) (leb (length w.cells) c) (Cell n) _ _ (ap (λ k. leb k c) (sym C.all_cells)) (λ t. nexts_tell (leb-false h.cells c t))
 
   -- an entry for each record
   entry_length : (cells n : ℕ) (p : Parts) (es fs : List (Entry K.State)) → entry_read K cells n p es ≡ Ok fs → length fs ≡ length es + 1

@@ -1,52 +1,40 @@
 -- Every call keeps the memory that its history leaves, and answers what the history predicts. Assumes nothing.
-use Rattle.std.proofs.Common.{◌≡◌, ℕ, ◌+◌, ◌<◌, Bool, cond, ◌&&◌, ◌||◌, ltb, leb, List, [], ◌∷◌, map, length, Ok, Err, sym, ap, ◌∙◌, subst, inl, inr, arith}
-use Rattle.std.proofs.lemmas.List.FromFn.{length-map-range_with_len, get_or-map-range_with_len}
-use Rattle.std.proofs.lemmas.List.{ext_get_or, get_or-map, length-map, take_all}
-use Rattle.std.proofs.lemmas.Bool.{cases_lt, cases_Bool, cond-true, cond-false, and_from, and_left, and_right, le-leb, lt-leb, lt-ltb, le-ltb}
+use Rattle.std.proofs.Common.{◌≡◌, ℕ, ◌+◌, ◌<◌, Bool, cond, ◌&&◌, ◌||◌, ltb, leb, List, [], ◌∷◌, map, length, Result, sym, refl, ap, ◌∙◌, subst, inl, inr}
+use Rattle.std.proofs.lemmas.Bool.{cases_lt, leb-false, cond-true, cond-false, and_from, and_left, and_right, le-leb, lt-leb, lt-ltb, le-ltb}
 use Rattle.std.specs.List.{range_with_len}
-use Rattle.kind.specs.Answers.{told, kept, refuse_if}
+use Rattle.kind.specs.Answers.{told, kept}
 use Rattle.kind.specs.Model.{Model, Laws}
+use Rattle.journal.specs.declared.walk.Stretch.{Stretch}
 use Rattle.volume.specs.Calls.{origin}
 use Rattle.volume.specs.Memory.{Memory}
 use Rattle.volume.specs.Recalls.{recalled}
+use Rattle.volume.specs.declared.refusal.Refusal.{Refusal}
 use Rattle.volume.specs.declared.refusal.Refusal.TheVariants.{Cell, Moment, Full}
 use Rattle.history.specs.Calls.{Call, format, write, read, span, roll, replay, revert, check, save, load, Reply, counted, state, change, refused, reply, run, run_all, fed, fed_all, replied, predicted}
-use Rattle.history.specs.History.{History, count, appended, last_entry, latest, stood, image}
+use Rattle.history.specs.History.{History, count, appended, last_entry, stood, image}
 use Rattle.history.specs.Promises.{fresh, KeptPromises, Promises, PromisesAfterLoad}
-use Rattle.history.proofs.Canonical.{Canonical, blank_canonical, empty_canonical}
+use Rattle.history.proofs.Canonical.{Canonical, present, blank_canonical, empty_canonical}
 use Rattle.history.proofs.Checked.{check_told}
 use Rattle.history.proofs.Entered.{writes_head}
 use Rattle.history.proofs.Filed.{save_told, save_only}
+use Rattle.history.proofs.Images.{by_cells, map_by_cells}
 use Rattle.history.proofs.Loaded.{load_told, load_keeps, load_starts, load_answers}
 use Rattle.history.proofs.Recalled.{fit, recall_back}
 use Rattle.history.proofs.Replayed.{replay_told, replays_there}
 use Rattle.history.proofs.Reverted.{revert_told, revert_keeps}
+use Rattle.history.proofs.Results.{reply_if}
 use Rattle.history.proofs.Rolled.{roll_told, rolls_there}
-use Rattle.history.proofs.Spanned.{read_no_cell, reads, span_no_cell, span_in, walks, got, got_is, onward_diff, spans_stand, spans_compose}
+use Rattle.history.proofs.Spanned.{found, looks, walked, timed, measures, walks, got_is, onward_diff, spans_stand, spans_compose}
 use Rattle.history.proofs.Written.{formats, formats_only, write_no_cell, write_full, write_taken, write_canonical}
 
 module _ {PS PC : Type 0} (K : Model PS PC) (L : Laws K) where
   module _ {h : History K.State} {v : Memory PS PC} (C : Canonical K h v) where
-    -- the present
-    pub present : (c : ℕ) → stood K h c (count h) ≡ latest K.origin c h.entries
-    present c = ap (latest K.origin c) (take_all (count h) h.entries (omega arith))
-
     cells_stand : map K.state v.cells ≡ image K h (count h)
     cells_stand =
-        let n = length-map v.cells K.state in
-        let m = length-map-range_with_len (λ c. stood K h c (count h)) 0 h.cells in
-        ext_get_or K.origin (map K.state v.cells) (image K h (count h)) (n ∙ C.all_cells ∙ sym m)
-        (λ i l.
-        let in' : i < h.cells = omega (arith, C.all_cells) in
-        get_or-map K.state v.cells i (origin K) K.origin (omega arith) ∙ C.states i in' ∙ sym (present i)
-        ∙ sym (get_or-map-range_with_len (λ c. stood K h c (count h)) 0 h.cells i i K.origin in' (omega arith)))
+        map_by_cells K.state (origin K) K.origin v.cells (λ c. stood K h c (count h)) h.cells C.all_cells (λ c l. C.states c l ∙ sym (present K h c))
 
     heads_stand : v.heads ≡ map (last_entry h) (range_with_len 0 h.cells)
-    heads_stand =
-        ext_get_or 0 v.heads (map (last_entry h) (range_with_len 0 h.cells)) (C.sizes.even ∙ C.all_cells ∙ sym (length-map-range_with_len (last_entry h) 0 h.cells))
-        (λ i l.
-        let in' : i < h.cells = omega (arith, C.all_cells, C.sizes.even) in
-        C.heads i in' ∙ writes_head K h.entries i ∙ sym (get_or-map-range_with_len (last_entry h) 0 h.cells i i 0 in' (omega arith)))
+    heads_stand = by_cells 0 v.heads (last_entry h) h.cells (C.sizes.even ∙ C.all_cells) (λ c l. C.heads c l ∙ writes_head K h.entries c)
 
     -- write
     write_keeps : (c : ℕ) (s : PS) → Canonical K (fed K h (write c s)) (run K v (write c s))
@@ -90,34 +78,23 @@ module _ {PS PC : Type 0} (K : Model PS PC) (L : Laws K) where
     -- read
     read_told : (c : ℕ) → replied K v (read c) ≡ predicted K h (read c)
     read_told c =
-        let out? : Bool = leb h.cells c in
-        let s : R = state (stood K h c (count h)) in
-        let shown : PS → R = λ s. state (K.state s) in
-        elim (cases_lt c h.cells) [
-          | inr out ↦ ap (reply shown) (read_no_cell K L C c out) ∙ sym (cond-true out? (refused Cell) s (le-leb h.cells c out))
-          | inl in' ↦
-              ap (reply shown) (reads K L C c in') ∙ ap (λ s. state s) (C.states c in' ∙ sym (present c))
-              ∙ sym (cond-false out? (refused Cell) s (lt-leb h.cells c in'))
-        ]
+        let shown : Result PS Refusal → R = reply (λ s. state (K.state s)) in
+        ap shown (looks K L C c)
+        ∙ reply_if shown (leb h.cells c) Cell (found K L C c) (state (stood K h c (count h))) refl
+        (λ t. ap (λ s. state s) (C.states c (leb-false h.cells c t) ∙ sym (present K h c)))
 
     -- span
     span_told : (c a b : ℕ) → replied K v (span c a b) ≡ predicted K h (span c a b)
     span_told c a b =
-        let out? : Bool = leb h.cells c in
+        let shown : Result (Stretch PC) Refusal → R = reply (λ s. change (K.change s.change)) in
         let late? : Bool = ltb (count h) a || ltb (count h) b in
         let f : R = change (K.diff (stood K h c a) (stood K h c b)) in
-        elim (cases_lt c h.cells) [
-          | inr out ↦ ap (reply (λ s. change (K.change s.change))) (span_no_cell K L C c a b out) ∙ sym (cond-true out? (refused Cell) (cond late? (refused Moment) f) (le-leb h.cells c out))
-          | inl in' ↦
-              ap (reply (λ s. change (K.change s.change))) (span_in K L C c a b in' ∙ ap (refuse_if late? Moment) (walks K L C c in' a b))
-              ∙ elim (cases_Bool late?) [
-                | inl t ↦ ap (reply (λ s. change (K.change s.change))) (cond-true late? (Err Moment) (Ok (got K L C c in' a b)) t) ∙ sym (cond-true late? (refused Moment) f t)
-                | inr t ↦
-                    ap (reply (λ s. change (K.change s.change))) (cond-false late? (Err Moment) (Ok (got K L C c in' a b)) t)
-                    ∙ ap (λ g. change g) (got_is K L C c in' a b ∙ onward_diff K L C c a b) ∙ sym (cond-false late? (refused Moment) f t)
-              ]
-              ∙ sym (cond-false out? (refused Cell) (cond late? (refused Moment) f) (lt-leb h.cells c in'))
-        ]
+        ap shown (measures K L C c a b)
+        ∙ reply_if shown (leb h.cells c) Cell (timed K L C c a b) (cond late? (refused Moment) f) refl
+        (λ t.
+        let in' : c < h.cells = leb-false h.cells c t in
+        reply_if shown late? Moment (walked K L C c a b) f refl
+        (λ _. ap shown (walks K L C c in' a b) ∙ ap (λ g. change g) (got_is K L C c in' a b ∙ onward_diff K L C c a b)))
 
     answers : (k : Call PS) → replied K v k ≡ predicted K h k
     answers format = ap (reply (λ m. _)) (formats K v C.sizes)

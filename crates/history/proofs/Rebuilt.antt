@@ -1,8 +1,8 @@
 -- A memory that check accepts is rebuilt by writes. Assumes nothing.
-use Rattle.std.proofs.Common.{◌≡◌, ℕ, zero, suc, ◌+◌, ◌-◌, ◌<◌, ◌≤◌, Bool, true, false, not, eqb, ltb, List, [], ◌∷◌, ◌++◌, map, length, get_or, set, Ok, Err, Result, sym, refl, ap, ◌∙◌, subst, inl, inr, arith}
-use Rattle.std.proofs.lemmas.List.{ext_get_or, get_or-map, length-map, length_push, length-set, length-replicate, get_or-replicate, get_or-set_same, get_or-set_other}
-use Rattle.std.proofs.lemmas.Bool.{cases_eq, cases_lt, and_parts, eqb-true, ltb-true, ltb-false, not-false}
-use Rattle.kind.specs.Answers.{and_then, each_below, refuse_if, refused_as, kept}
+use Rattle.std.proofs.Common.{◌≡◌, cond, ℕ, zero, suc, ◌+◌, ◌-◌, ◌<◌, ◌≤◌, true, not, eqb, ltb, List, [], ◌∷◌, ◌++◌, map, length, get_or, set, Ok, Err, Result, sym, refl, ap, ◌∙◌, subst, inl, inr, arith}
+use Rattle.std.proofs.lemmas.List.{ext_get_or, get_or-map, length-map, length_push, get_or-replicate, get_or-set_same, get_or-set_other}
+use Rattle.std.proofs.lemmas.Bool.{cases_lt, and_parts, eqb-true, ltb-true, not-false}
+use Rattle.kind.specs.Answers.{and_then, each_below, refused_as, kept}
 use Rattle.kind.specs.Model.{Model, Laws}
 use Rattle.kind.proofs.Tried.{each_at}
 use Rattle.journal.specs.declared.faults.LadderFault.{LadderFault}
@@ -12,48 +12,26 @@ use Rattle.journal.specs.Appends.{planned}
 use Rattle.journal.specs.Links.{blank, numbered}
 use Rattle.journal.specs.Spans.{spanned}
 use Rattle.logs.proofs.Proved.{never_refused_lem}
+use Rattle.logs.proofs.Related.{related_ok}
 use Rattle.volume.specs.Calls.{origin, emptied}
 use Rattle.volume.specs.Checks.{newest_to, as_planned, right_record, record_right, head_right, as_changed, cell_right, judged, workable, checked}
 use Rattle.volume.specs.Memory.{Memory}
 use Rattle.volume.specs.Rolls.{acted}
 use Rattle.volume.specs.Sizes.{sized, sound}
 use Rattle.volume.specs.declared.refusal.Refusal.{Refusal}
-use Rattle.volume.specs.declared.refusal.Refusal.TheVariants.{Count, Unsound}
+use Rattle.volume.specs.declared.refusal.Refusal.TheVariants.{Unsound}
 use Rattle.volume.specs.declared.refusal.Wrong.{Wrong}
 use Rattle.history.specs.Calls.{Call, write, run, run_all}
 use Rattle.history.specs.History.{History, count, appended}
 use Rattle.history.specs.Promises.{fresh}
 use Rattle.history.specs.Soundness.{Asked, asks, Alike, CountsAs, LeftByWrites}
-use Rattle.history.proofs.Alikes.{Related, AlikeStretch, planned_alike, spanned_alike}
-use Rattle.history.proofs.Canonical.{Sizes, sized_cases, Canonical, blank_canonical}
-use Rattle.history.proofs.Checked.{cell_made}
+use Rattle.history.proofs.Alikes.{AlikeStretch, planned_alike, spanned_alike}
+use Rattle.history.proofs.Canonical.{Sizes, sized_only, sound_only, Canonical, blank_canonical, writes_few}
+use Rattle.history.proofs.Images.{set_read}
+use Rattle.history.proofs.Newest.{newest_length, cell_made}
+use Rattle.history.proofs.Results.{then_ok, as_ok, test_ok, from_first}
 use Rattle.history.proofs.Spanned.{got, spans}
-use Rattle.history.proofs.Written.{f, r, plans, few, ws, after, formats, write_taken, write_canonical}
-
--- what an answer that is no refusal says of its parts
-pub then_ok : {A B E : Type 0} (r : Result A E) (k : A → Result B E) (y : B) → and_then r k ≡ Ok y → (x : A) × (r ≡ Ok x) × (k x ≡ Ok y)
-then_ok (Ok x) k y e = (x, refl, e)
-then_ok (Err q) k y e = let z : ◌≡◌ {A = ℕ} 0 1 = cc in absurd (omega arith)
-
-pub as_ok : {A E F : Type 0} (g : E → F) (r : Result A E) (y : A) → refused_as g r ≡ Ok y → r ≡ Ok y
-as_ok g (Ok x) y e = let s : x ≡ y = cc in ap Ok s
-as_ok g (Err q) y e = let z : ◌≡◌ {A = ℕ} 0 1 = cc in absurd (omega arith)
-
-pub test_ok : {A E : Type 0} (t : Bool) (e : E) (r : Result A E) (y : A) → refuse_if t e r ≡ Ok y → (t ≡ false) × (r ≡ Ok y)
-test_ok true e r y q = let z : ◌≡◌ {A = ℕ} 0 1 = cc in absurd (omega arith)
-test_ok false e r y q = (refl, q)
-
-pub sized_only : (a b c : ℕ) (x : Unit {0}) → sized a b c ≡ Ok x → Sizes a b c
-sized_only a b c x e =
-    elim (sized_cases a b c) [
-      | inl z ↦ z
-      | inr bad ↦ (let never : Err bad.0 ≡ Ok x = sym bad.1 ∙ e in let z : ◌≡◌ {A = ℕ} 0 1 = cc in absurd (omega arith))
-    ]
-
-pub sound_only : (a b c n : ℕ) (x : Unit {0}) → sound a b c n ≡ Ok x → Sizes a b c × (n ≤ c)
-sound_only a b c n x e =
-    let (y, p, q) = then_ok (sized a b c) (λ _. refuse_if (ltb c n) Count (Ok tt)) x e in
-    (sized_only a b c y p, ltb-false c n (test_ok (ltb c n) Count (Ok tt) x q).0)
+use Rattle.history.proofs.Written.{f, r, plans, ws, after, formats, write_taken, write_canonical}
 
 run_append : {PS PC : Type 0} (K : Model PS PC) (m : Memory PS PC) (ks js : List (Call PS)) → run_all K m (ks ++ js) ≡ run_all K (run_all K m ks) js
 run_append K m [] js = refl
@@ -77,12 +55,6 @@ module _ {PS PC : Type 0} (K : Model PS PC) (L : Laws K) where
   changed_parts : (s : PS) (p : Result (Stretch PC) LadderFault) → as_changed K s p ≡ true → (t : Stretch PC) × (p ≡ Ok t) × (K.state s ≡ K.state (acted K t.change (origin K)))
   changed_parts s (Ok t) e = (t, refl, (L.state_exact (K.state s) (K.state (acted K t.change (origin K)))).0 e)
   changed_parts s (Err q) e = let z : ◌≡◌ {A = ℕ} 0 1 = cc in absurd (omega arith)
-
-  related_ok : (p q : Result (Record PC) LadderFault) (s t : Record PC) → p ≡ Ok s → q ≡ Ok t → Related (Alike K) p q → Alike K s t
-  related_ok p q s t e d h = subst (λ x. Related (Alike K) (Ok s) x) d (subst (λ x. Related (Alike K) x q) e h)
-
-  related_ok' : (p q : Result (Stretch PC) LadderFault) (s t : Stretch PC) → p ≡ Ok s → q ≡ Ok t → Related (AlikeStretch K L) p q → AlikeStretch K L s t
-  related_ok' p q s t e d h = subst (λ x. Related (AlikeStretch K L) (Ok s) x) d (subst (λ x. Related (AlikeStretch K L) x q) e h)
 
   module _ (v : Memory PS PC) (z : Sizes (length v.cells) (length v.heads) (length v.records)) (fits : v.count ≤ length v.records) (fine : judged K v ≡ Ok tt) where
     abbrev n : ℕ
@@ -148,15 +120,8 @@ module _ {PS PC : Type 0} (K : Model PS PC) (L : Laws K) where
       pub alike : (i : ℕ) → i < m → Alike K (at i) (numbered K (rebuilt m).records (i + 1))
       pub heads : (c : ℕ) → c < n → get_or (rebuilt m).heads c 0 ≡ get_or (news m) c 0
 
-    news_length : (m : ℕ) → length (news m) ≡ n
-    news_length zero = length-replicate {A = ℕ} n 0
-    news_length (suc m) = length-set (news m) (numbered K v.records (suc m)).cell (suc m) ∙ news_length m
-
     alike_up : (m : ℕ) (M : Made m) (k : ℕ) → 1 ≤ k → k ≤ m → Alike K (numbered K v.records k) (numbered K (rebuilt m).records k)
-    alike_up m M zero l low = absurd (omega arith)
-    alike_up m M (suc i) l low =
-        let one : i + 1 ≡ suc i = omega arith in
-        subst (λ k. Alike K (numbered K v.records k) (numbered K (rebuilt m).records k)) one (M.alike i (omega arith))
+    alike_up m M k l low = from_first (λ i. Alike K (numbered K v.records i) (numbered K (rebuilt m).records i)) m M.alike k l low
 
     made_none : Made zero
     made_none =
@@ -196,9 +161,9 @@ module _ {PS PC : Type 0} (K : Model PS PC) (L : Laws K) where
         ap (λ k. planned K w.records (k + 1) (get_or (news m) c 0) c g) (sym seen)
         ∙ ap (λ k. planned K w.records (w.count + 1) k c g) (sym (M.heads c low)) ∙ plans K L C c s in' in
         let both : Alike K p y =
-        related_ok (planned K v.records (m + 1) (get_or (news m) c 0) c x.change) (planned K w.records (m + 1) (get_or (news m) c 0) c g) p y plan plan'
-        (planned_alike K L v.records w.records m (omega (arith, fits)) (omega (arith, C.all_records, M.capacity, fits)) (alike_up m M) (get_or (news m) c 0) c x.change g change) in
-        let N = never_refused_lem K L (ws K L C c s) w.records C.logs (few K L C c s in') c g in
+        related_ok (Alike K) (planned K v.records (m + 1) (get_or (news m) c 0) c x.change) (planned K w.records (m + 1) (get_or (news m) c 0) c g) p y
+        (planned_alike K L v.records w.records m (omega (arith, fits)) (omega (arith, C.all_records, M.capacity, fits)) (alike_up m M) (get_or (news m) c 0) c x.change g change) plan plan' in
+        let N = never_refused_lem K L (ws K L C c s) w.records C.logs (writes_few K C) c g in
         let mine : Alike K x y = record {
           cell = sym N.3;
           next = e-next ∙ both.next;
@@ -228,15 +193,10 @@ module _ {PS PC : Type 0} (K : Model PS PC) (L : Laws K) where
               ]);
           heads = λ d low'. ap (λ u. get_or u.heads d 0) taken
               ∙ ap (λ k. get_or (set w.heads c k) d 0) (ap (λ k. k + 1) seen ∙ one)
-              ∙ elim (cases_eq d c) [
-                | inl own ↦
-                    ap (λ k. get_or (set w.heads c (suc m)) k 0) own ∙ get_or-set_same w.heads c (suc m) 0 (omega (arith, C.sizes.even, C.all_cells))
-                    ∙ sym (ap (λ k. get_or (set (news m) k (suc m)) d 0) (ap (λ k. (numbered K v.records k).cell) (sym one))
-                    ∙ ap (λ k. get_or (set (news m) c (suc m)) k 0) own ∙ get_or-set_same (news m) c (suc m) 0 (omega (arith, news_length m)))
-                | inr other ↦
-                    get_or-set_other w.heads c d (suc m) 0 other ∙ M.heads d low'
-                    ∙ sym (ap (λ k. get_or (set (news m) k (suc m)) d 0) (ap (λ k. (numbered K v.records k).cell) (sym one)) ∙ get_or-set_other (news m) c d (suc m) 0 other)
-              ];
+              ∙ set_read (λ (k : ℕ). k) w.heads c d (suc m) 0 (omega (arith, C.sizes.even, C.all_cells))
+              ∙ ap (cond (eqb c d) (suc m)) (M.heads d low')
+              ∙ sym (ap (λ k. get_or (set (news m) k (suc m)) d 0) (ap (λ k. (numbered K v.records k).cell) (sym one))
+              ∙ set_read (λ (k : ℕ). k) (news m) c d (suc m) 0 (omega (arith, newest_length K n v.records m)));
         }
 
     made : (m : ℕ) → m ≤ v.count → Made m
@@ -276,8 +236,8 @@ module _ {PS PC : Type 0} (K : Model PS PC) (L : Laws K) where
           ap (λ k. spanned K all.records k (get_or v.heads c 0) c 0 k) (sym seen) ∙ ap (λ k. spanned K all.records all.count k c 0 all.count) (head_at c l)
           ∙ spans K L C c in' 0 all.count in
           let both : AlikeStretch K L t g =
-          related_ok' mine (spanned K all.records v.count (get_or v.heads c 0) c 0 v.count) t g is other
-          (spanned_alike K L v.records all.records v.count fits (omega (arith, C.all_records, M.capacity, fits)) (alike_up v.count M) (get_or v.heads c 0) c 0 v.count) in
+          related_ok (AlikeStretch K L) mine (spanned K all.records v.count (get_or v.heads c 0) c 0 v.count) t g
+          (spanned_alike K L v.records all.records v.count fits (omega (arith, C.all_records, M.capacity, fits)) (alike_up v.count M) (get_or v.heads c 0) c 0 v.count) is other in
           e ∙ ap (λ q. K.state (K.plain_state (K.act q (K.state (origin K))))) both.change ∙ cell_made K L C c in'
 
       cells_same : map K.state v.cells ≡ map K.state all.cells

@@ -1,6 +1,7 @@
 -- What the file of a history says, record by record: its entries, and each cell at each moment. Assumes nothing.
 use Rattle.std.proofs.Common.{◌≡◌, ℕ, zero, suc, ◌+◌, ◌*◌, ◌<◌, ◌≤◌, min, Bool, false, cond, not, eqb, ltb, leb, List, [], ◌∷◌, ◌++◌, length, take, drop, Some, None, Ok, Err, Option, Result, sym, refl, ap, ◌∙◌, subst, inl, inr, arith}
 use Rattle.std.proofs.lemmas.List.{length-append, length-take}
+use Rattle.std.proofs.lemmas.Bool.Decides.{nat_tests}
 use Rattle.std.proofs.lemmas.Bool.{cases_Bool, cond-true, cond-false, eqb-true, eq-eqb, lt-leb, le-ltb, not_from_true}
 use Rattle.kind.specs.Answers.{and_then, refuse_if, refused_as}
 use Rattle.kind.specs.Model.{Model, Laws}
@@ -21,27 +22,17 @@ use Rattle.volume.specs.declared.refusal.Refusal.TheVariants.{File, Area, Cell a
 use Rattle.history.specs.Files.{line, lines_on, file_of_history, entry_read, entries_read}
 use Rattle.history.specs.History.{History, Entry, count, latest, last_number, stood}
 use Rattle.history.proofs.Canonical.{Owned, owned_at, Canonical}
-use Rattle.history.proofs.Entered.{latest_append}
+use Rattle.history.proofs.Entered.{latest_append, last_append}
 use Rattle.history.proofs.Filed.{lines_append, lines_length}
 use Rattle.history.proofs.Loaded.{passed}
 use Rattle.history.proofs.Nth.{split_at}
 
--- the last entry's number, with one entry more; it is no more than the entries
-last_push : {S : Type 0} (before found c : ℕ) (xs : List (Entry S)) (e : Entry S) → last_number before found c (xs ++ e ∷ []) ≡ cond (eqb e.cell c) (before + length xs + 1) (last_number before found c xs)
-last_push before found c [] e = let z : before + 1 ≡ before + 0 + 1 = omega arith in ap (λ k. cond (eqb e.cell c) k found) z
-last_push before found c (x ∷ xs) e =
-    let z : before + 1 + length xs + 1 ≡ before + suc (length xs) + 1 = omega arith in
-    last_push (before + 1) (cond (eqb x.cell c) (before + 1) found) c xs e
-    ∙ ap (λ k. cond (eqb e.cell c) k (last_number before found c (x ∷ xs))) z
-
+-- the last entry's number is no more than the entries
 last_low : {S : Type 0} (before found c : ℕ) (xs : List (Entry S)) → found ≤ before → last_number before found c xs ≤ before + length xs
 last_low before found c [] l = omega arith
 last_low before found c (x ∷ xs) l =
     let b : Bool = eqb x.cell c in
-    let new : cond b (before + 1) found ≤ before + 1 = elim (cases_Bool b) [
-      | inl t ↦ (let q : cond b (before + 1) found ≡ before + 1 = cond-true b (before + 1) found t in omega arith)
-      | inr t ↦ (let q : cond b (before + 1) found ≡ found = cond-false b (before + 1) found t in omega arith)
-    ] in
+    let new : cond b (before + 1) found ≤ before + 1 = grind (arith, nat_tests) in
     let r = last_low (before + 1) (cond b (before + 1) found) c xs new in
     omega arith
 
@@ -154,7 +145,7 @@ module _ {PS PC : Type 0} (K : Model PS PC) (L : Laws K) where
         ap (λ (p : Parts). cond (eqb p.cell c) (suc n) (last_of K F c n)) N.parts
         ∙ ap (cond (eqb e.cell c) (suc n)) (lasts c n (omega arith))
         ∙ ap (λ k. cond (eqb e.cell c) k (last_number 0 0 c (take n es))) (sym short)
-        ∙ sym (last_push 0 0 c (take n es) e) ∙ ap (last_number 0 0 c) (sym N.next ∙ ap (λ k. take k es) one)
+        ∙ sym (last_append 0 0 c (take n es) (e ∷ [])) ∙ ap (last_number 0 0 c) (sym N.next ∙ ap (λ k. take k es) one)
 
     cell_back : (c n : ℕ) → n ≤ count h → replayed K F c n ≡ Ok (stood K h c n)
     cell_back c zero l = refl

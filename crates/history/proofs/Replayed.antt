@@ -1,8 +1,7 @@
 -- What replay answers on the memory that a history leaves. Assumes nothing.
-use Rattle.std.proofs.Common.{◌≡◌, ℕ, zero, suc, ◌+◌, ◌<◌, ◌≤◌, Bool, cond, not, eqb, ltb, leb, List, [], ◌∷◌, map, length, get_or, take, set, Ok, Err, Result, sym, ap, ◌∙◌, inl, inr, arith}
-use Rattle.std.proofs.lemmas.List.FromFn.{length-map-range_with_len, get_or-map-range_with_len}
-use Rattle.std.proofs.lemmas.List.{ext_get_or, get_or-map, length-map, length-set, length-replicate, get_or-replicate, get_or-set_same, get_or-set_other}
-use Rattle.std.proofs.lemmas.Bool.{cases_eq, cases_lt, cond-true, cond-false, eq-eqb, ne_eqb, lt-ltb, le-ltb, lt-leb, not_from_true, not_from_false}
+use Rattle.std.proofs.Common.{◌≡◌, ℕ, zero, suc, ◌+◌, ◌<◌, ◌≤◌, Bool, cond, not, eqb, ltb, leb, List, [], ◌∷◌, map, length, get_or, take, set, Ok, Err, Result, sym, refl, ap, ◌∙◌, arith}
+use Rattle.std.proofs.lemmas.List.{length-set, length-replicate, get_or-replicate}
+use Rattle.std.proofs.lemmas.Bool.{cond-false, eq-eqb, eqb-true, le-ltb, ltb-false, lt-leb, not_from_true, not-false}
 use Rattle.kind.specs.Answers.{and_then, each_below, refuse_if, refused_as}
 use Rattle.kind.specs.Model.{Model, Laws}
 use Rattle.kind.proofs.Tried.{each_ok}
@@ -20,7 +19,9 @@ use Rattle.history.specs.History.{History, count, latest, stood, image}
 use Rattle.history.specs.Promises.{Replays}
 use Rattle.history.proofs.Canonical.{Canonical, sound_is}
 use Rattle.history.proofs.Entered.{latest_append}
+use Rattle.history.proofs.Images.{map_by_cells, set_read}
 use Rattle.history.proofs.Nth.{Nth, nth}
+use Rattle.history.proofs.Results.{reply_if}
 
 module _ {PS PC : Type 0} (K : Model PS PC) (L : Laws K) {h : History K.State} {v : Memory PS PC} (C : Canonical K h v) where
   abbrev pub played_up : ℕ → List PS
@@ -50,14 +51,9 @@ module _ {PS PC : Type 0} (K : Model PS PC) (L : Laws K) {h : History K.State} {
       ∙ ap (K.act (K.change r.change)) (played_at n (omega arith) d N.owned)
       ∙ ap (λ f. K.act f (stood K h d n)) change ∙ L.diff_acts (stood K h d n) N.entry.state in
       ap (λ k. K.state (get_or (set past k new) c (origin K))) cell
-      ∙ elim (cases_eq d c) [
-        | inl own ↦
-            ap (λ k. K.state (get_or (set past d new) k (origin K))) (sym own) ∙ ap K.state (get_or-set_same past d new (origin K) (omega (arith, N.owned))) ∙ made
-            ∙ sym (now ∙ cond-true (eqb d c) N.entry.state (stood K h c n) (eq-eqb d c own))
-        | inr other ↦
-            ap K.state (get_or-set_other past d c new (origin K) (λ e. other (sym e))) ∙ played_at n (omega arith) c in'
-            ∙ sym (now ∙ cond-false (eqb d c) N.entry.state (stood K h c n) (ne_eqb d c other))
-      ]
+      ∙ set_read K.state past d c new (origin K) (omega (arith, N.owned))
+      ∙ ap (λ s. cond (eqb d c) s (K.state (get_or past c (origin K)))) made
+      ∙ ap (cond (eqb d c) N.entry.state) (played_at n (omega arith) c in') ∙ sym now
 
   pub known : (n : ℕ) → n ≤ count h → each_below (cell_known K h.cells v.records) n ≡ Ok tt
   known n l =
@@ -68,61 +64,45 @@ module _ {PS PC : Type 0} (K : Model PS PC) (L : Laws K) {h : History K.State} {
       (tt, cond-false (leb h.cells (numbered K v.records (i + 1)).cell) (Err (Cell (i + 1))) (Ok tt) (lt-leb h.cells (numbered K v.records (i + 1)).cell in')))
 
   played_stands : (n : ℕ) → n ≤ count h → map K.state (played_up n) ≡ image K h n
-  played_stands n l =
-      let size = played_length n in
-      let k = length-map (played_up n) K.state in
-      ext_get_or K.origin (map K.state (played_up n)) (image K h n) (k ∙ size ∙ sym (length-map-range_with_len (λ c. stood K h c n) 0 h.cells))
-      (λ c low.
-      let in' : c < h.cells = omega arith in
-      get_or-map K.state (played_up n) c (origin K) K.origin (omega arith) ∙ played_at n l c in'
-      ∙ sym (get_or-map-range_with_len (λ c. stood K h c n) 0 h.cells c c K.origin in' (omega arith)))
+  played_stands n l = map_by_cells K.state (origin K) K.origin (played_up n) (λ c. stood K h c n) h.cells (played_length n) (λ c low. played_at n l c low)
 
   module _ (im : List PS) (m : ℕ) where
     abbrev tries : ℕ → Result (List PS) Refusal
     tries n = and_then (refused_as Ladder (each_below (cell_known K n v.records) m)) (λ _. Ok (played_to K n v.records m))
 
     abbrev odd? : Bool
-    odd? = not (eqb (length im) (length v.cells))
+    odd? = not (eqb (length im) h.cells)
 
-    checked : replayed K v im m ≡ refuse_if odd? Image (refuse_if (ltb v.count m) Moment (tries (length im)))
+    abbrev timed : Result (List PS) Refusal
+    timed = refuse_if (ltb (count h) m) Moment (tries (length im))
+
+    checked : replayed K v im m ≡ refuse_if odd? Image timed
     unfolding replayed
-    checked = ap (λ r. and_then r (λ _. refuse_if odd? Image (refuse_if (ltb v.count m) Moment (tries (length im))))) (sound_is K C)
+    checked =
+        ap (λ r. and_then r (λ _. refuse_if (not (eqb (length im) (length v.cells))) Image (refuse_if (ltb v.count m) Moment (tries (length im))))) (sound_is K C)
+        ∙ ap (λ n. refuse_if (not (eqb (length im) n)) Image (refuse_if (ltb v.count m) Moment (tries (length im)))) C.all_cells
+        ∙ ap (λ n. refuse_if odd? Image (refuse_if (ltb n m) Moment (tries (length im)))) C.counts
 
-    replay_odd : (length im ≡ h.cells → ⊥) → replayed K v im m ≡ Err Image
-    replay_odd n =
-        checked ∙ cond-true odd? (Err Image) (refuse_if (ltb v.count m) Moment (tries (length im)))
-        (not_from_false (eqb (length im) (length v.cells)) (ne_eqb (length im) (length v.cells) (λ e. n (e ∙ C.all_cells))))
-
-    module _ (even : length im ≡ h.cells) where
-      replay_even : replayed K v im m ≡ refuse_if (ltb (count h) m) Moment (tries h.cells)
-      replay_even =
-          checked ∙ cond-false odd? (Err Image) (refuse_if (ltb v.count m) Moment (tries (length im)))
-          (not_from_true (eqb (length im) (length v.cells)) (eq-eqb (length im) (length v.cells) (even ∙ sym C.all_cells)))
-          ∙ ap (λ n. refuse_if (ltb n m) Moment (tries (length im))) C.counts ∙ ap (λ n. refuse_if (ltb (count h) m) Moment (tries n)) even
-
-      pub replay_late : count h < m → replayed K v im m ≡ Err Moment
-      replay_late late = replay_even ∙ cond-true (ltb (count h) m) (Err Moment) (tries h.cells) (lt-ltb (count h) m late)
-
-      pub replay_made : m ≤ count h → replayed K v im m ≡ Ok (played_up m)
-      replay_made l =
-          replay_even ∙ cond-false (ltb (count h) m) (Err Moment) (tries h.cells) (le-ltb (count h) m l)
-          ∙ ap (λ r. and_then (refused_as Ladder r) (λ _. Ok (played_up m))) (known m l)
+    made : length im ≡ h.cells → m ≤ count h → tries (length im) ≡ Ok (played_up m)
+    made even l = ap tries even ∙ ap (λ r. and_then (refused_as Ladder r) (λ _. Ok (played_up m))) (known m l)
 
     pub replay_told : replied K v (replay im m) ≡ predicted K h (replay im m)
     replay_told =
-        let shown : List PS → Reply K.State K.Change = λ ss. states (map K.state ss) in
+        let shown : Result (List PS) Refusal → Reply K.State K.Change = reply (λ ss. states (map K.state ss)) in
         let there : Reply K.State K.Change = states (image K h m) in
-        let rest : Reply K.State K.Change = cond (ltb (count h) m) (refused Moment) there in
-        let bad? : Bool = not (eqb (length im) h.cells) in
-        elim (cases_eq (length im) h.cells) [
-          | inr n ↦ ap (reply shown) (replay_odd n) ∙ sym (cond-true bad? (refused Image) rest (not_from_false (eqb (length im) h.cells) (ne_eqb (length im) h.cells n)))
-          | inl even ↦
-              elim (cases_lt (count h) m) [
-                | inl late ↦ ap (reply shown) (replay_late even late) ∙ sym (cond-true (ltb (count h) m) (refused Moment) there (lt-ltb (count h) m late))
-                | inr l ↦ ap (reply shown) (replay_made even l) ∙ ap (λ ss. states ss) (played_stands m l) ∙ sym (cond-false (ltb (count h) m) (refused Moment) there (le-ltb (count h) m l))
-              ]
-              ∙ sym (cond-false bad? (refused Image) rest (not_from_true (eqb (length im) h.cells) (eq-eqb (length im) h.cells even)))
-        ]
+        ap shown checked
+        ∙ reply_if shown odd? Image timed (cond (ltb (count h) m) (refused Moment) there) refl
+        (λ t. reply_if shown (ltb (count h) m) Moment (tries (length im)) there refl
+        (λ t'.
+        let low : m ≤ count h = ltb-false (count h) m t' in
+        ap shown (made (eqb-true (length im) h.cells (not-false (eqb (length im) h.cells) t)) low) ∙ ap (λ ss. states ss) (played_stands m low)))
 
     pub replays_there : length im ≡ h.cells → m ≤ count h → Replays K h v im m
-    replays_there even l = record { made = played_up m; answered = replay_made even l; there = played_stands m l }
+    replays_there even l =
+        record {
+          made = played_up m;
+          answered =
+              checked ∙ cond-false odd? (Err Image) timed (not_from_true (eqb (length im) h.cells) (eq-eqb (length im) h.cells even))
+              ∙ cond-false (ltb (count h) m) (Err Moment) (tries (length im)) (le-ltb (count h) m l) ∙ made even l;
+          there = played_stands m l;
+        }

@@ -1,7 +1,7 @@
 -- What revert makes of the memory that a history leaves. Assumes nothing.
 use Rattle.std.proofs.Common.{◌≡◌, ℕ, zero, suc, ◌+◌, ◌<◌, ◌≤◌, Bool, cond, ◌&&◌, eqb, ltb, leb, List, [], ◌∷◌, ◌++◌, length, get_or, Ok, Err, Result, sym, refl, ap, ◌∙◌, subst, inl, inr, arith}
-use Rattle.std.proofs.lemmas.List.{append-nil, append_assoc, length-append, take_all}
-use Rattle.std.proofs.lemmas.Bool.{cases_Bool, cases_lt, cond-true, cond-false, and_from, and_left, and_right, ne_eqb, lt-ltb, le-ltb, le-leb, lt-leb}
+use Rattle.std.proofs.lemmas.List.{append-nil, append_assoc, length-append}
+use Rattle.std.proofs.lemmas.Bool.{cases_Bool, cases_lt, cond-true, cond-false, and_from, and_left, and_right, ne_eqb, lt-ltb, le-ltb, ltb-false, le-leb, lt-leb}
 use Rattle.kind.specs.Answers.{and_then, refuse_if, refused_as, kept}
 use Rattle.kind.specs.Model.{Model, Laws}
 use Rattle.journal.specs.declared.walk.Stretch.{Stretch}
@@ -19,8 +19,9 @@ use Rattle.volume.specs.declared.refusal.Refusal.{Refusal}
 use Rattle.volume.specs.declared.refusal.Refusal.TheVariants.{Moment, Ladder, Full}
 use Rattle.history.specs.Calls.{Reply, counted, refused, reply, revert, restoring, restored, run, fed, replied, predicted}
 use Rattle.history.specs.History.{History, Entry, count, extended, latest, last_number, stood}
-use Rattle.history.proofs.Canonical.{Owned, owned_append, Canonical, sound_is}
-use Rattle.history.proofs.Entered.{writes, writes_on, writes_append, writes_length, writes_head, latest_append, onward_acts}
+use Rattle.history.proofs.Canonical.{Owned, owned_append, Canonical, sound_is, writes_few, present}
+use Rattle.history.proofs.Entered.{writes, writes_on, writes_append, writes_length, writes_head, latest_append, last_append, through, onward_acts}
+use Rattle.history.proofs.Results.{reply_if}
 use Rattle.history.proofs.Written.{write_taken, write_canonical, after}
 
 -- entries of lower cells say nothing of cell n
@@ -29,10 +30,6 @@ last_none n before found [] o = refl
 last_none n before found (y ∷ ys) o =
     last_none n (before + 1) (cond (eqb y.cell n) (before + 1) found) ys o.1
     ∙ cond-false (eqb y.cell n) (before + 1) found (ne_eqb y.cell n (λ e. omega (arith, o.0)))
-
-last_keeps : {S : Type 0} (n before found : ℕ) (xs ys : List (Entry S)) → Owned n ys → last_number before found n (xs ++ ys) ≡ last_number before found n xs
-last_keeps n before found [] ys o = last_none n before found ys o
-last_keeps n before found (x ∷ xs) ys o = last_keeps n (before + 1) (cond (eqb x.cell n) (before + 1) found) xs ys o
 
 latest_none : {S : Type 0} (s : S) (n : ℕ) (ys : List (Entry S)) → Owned n ys → latest s n ys ≡ s
 latest_none s n [] o = refl
@@ -51,14 +48,8 @@ module _ {PS PC : Type 0} (K : Model PS PC) (L : Laws K) {h : History K.State} {
   abbrev from : ℕ
   from = count h
 
-  few : length (writes K es) ≤ 65535
-  few = omega (arith, writes_length K es, C.fits, C.all_records, C.sizes.few_records)
-
   abbrev same? : ℕ → Bool
   same? c = K.same_state (stood K h c (count h)) (stood K h c to)
-
-  present : (c : ℕ) → stood K h c (count h) ≡ latest K.origin c es
-  present c = ap (latest K.origin c) (take_all (count h) es (omega arith))
 
   restoring_owned : (n : ℕ) → Owned n (restoring K h to n)
   restoring_owned zero = tt
@@ -74,13 +65,13 @@ module _ {PS PC : Type 0} (K : Model PS PC) (L : Laws K) {h : History K.State} {
   module _ (m : Memory PS PC) (c : ℕ) (logs : Logs K m.records (writes K es)) (head : get_or m.heads c 0 ≡ head_of (writes K es) c)
       (state : K.state (held_state K m c) ≡ stood K h c (count h)) where
     abbrev back : Stretch PC
-    back = (span K L (writes K es) m.records logs few c from to).got
+    back = (span K L (writes K es) m.records logs (writes_few K C) c from to).got
 
     spans_back : spanned K m.records from (get_or m.heads c 0) c from to ≡ Ok back
     spans_back =
         ap (λ x. spanned K m.records from x c from to) head
         ∙ ap (λ n. spanned K m.records n (head_of (writes K es) c) c from to) (sym (writes_length K es))
-        ∙ (span K L (writes K es) m.records logs few c from to).answer
+        ∙ (span K L (writes K es) m.records logs (writes_few K C) c from to).answer
 
     abbrev t : PS
     t = acted K back.change (held_state K m c)
@@ -92,7 +83,7 @@ module _ {PS PC : Type 0} (K : Model PS PC) (L : Laws K) {h : History K.State} {
     t_is =
         L.state_plain (K.act (K.change back.change) (K.state (held_state K m c)))
         ∙ ap (K.act (K.change back.change)) state
-        ∙ ap (λ f. K.act f (stood K h c (count h))) (span K L (writes K es) m.records logs few c from to).is
+        ∙ ap (λ f. K.act f (stood K h c (count h))) (span K L (writes K es) m.records logs (writes_few K C) c from to).is
         ∙ onward_acts K L es c from to
 
     alike_is : alike K (held_state K m c) t ≡ same? c
@@ -101,7 +92,7 @@ module _ {PS PC : Type 0} (K : Model PS PC) (L : Laws K) {h : History K.State} {
   -- how many writes are needed
   needs : (c : ℕ) → c < h.cells → needed K from to v c ≡ Ok (cond (same? c) 0 1)
   needs c in' =
-      let now : K.state (held_state K v c) ≡ stood K h c (count h) = C.states c in' ∙ sym (present c) in
+      let now : K.state (held_state K v c) ≡ stood K h c (count h) = C.states c in' ∙ sym (present K h c) in
       let s : PS = held_state K v c in
       let u : PS = t v c C.logs (C.heads c in') now in
       let f : PC = difference K s u in
@@ -109,24 +100,16 @@ module _ {PS PC : Type 0} (K : Model PS PC) (L : Laws K) {h : History K.State} {
       let fine : plan ≡ Ok 1 =
       ap (λ x. and_then (refused_as Ladder (planned K v.records (from + 1) x c f)) (λ _. Ok 1)) (C.heads c in')
       ∙ ap (λ n. and_then (refused_as Ladder (planned K v.records (n + 1) (head_of (writes K es) c) c f)) (λ _. Ok 1)) (sym (writes_length K es))
-      ∙ ap (λ r. and_then (refused_as Ladder r) (λ _. Ok 1)) (never_refused_lem K L (writes K es) v.records C.logs few c f).1 in
+      ∙ ap (λ r. and_then (refused_as Ladder r) (λ _. Ok 1)) (never_refused_lem K L (writes K es) v.records C.logs (writes_few K C) c f).1 in
       ap (λ r. and_then r (λ x. cond (alike K s x) (Ok 0) (and_then (refused_as Ladder (planned K v.records (from + 1) (get_or v.heads c 0) c (difference K s x))) (λ _. Ok 1))))
       (earlier_is v c C.logs (C.heads c in') now)
       ∙ ap (λ b. cond b (Ok 0) plan) (alike_is v c C.logs (C.heads c in') now)
-      ∙ ap (cond (same? c) (Ok 0)) fine
-      ∙ elim (cases_Bool (same? c)) [
-        | inl q ↦ cond-true (same? c) (Ok 0) (Ok 1) q ∙ ap Ok (sym (cond-true (same? c) 0 1 q))
-        | inr q ↦ cond-false (same? c) (Ok 0) (Ok 1) q ∙ ap Ok (sym (cond-false (same? c) 0 1 q))
-      ]
+      ∙ ap (cond (same? c) (Ok 0)) fine ∙ sym (through Ok (same? c) 0 1)
 
   restoring_more : (n : ℕ) → length (restoring K h to (suc n)) ≡ length (restoring K h to n) + cond (same? n) 0 1
   restoring_more n =
       let e : Entry K.State = record { cell = n; state = stood K h n to } in
-      length-append (restoring K h to n) (cond (same? n) [] (e ∷ []))
-      ∙ elim (cases_Bool (same? n)) [
-        | inl q ↦ ap (λ xs. length (restoring K h to n) + length xs) (cond-true (same? n) [] (e ∷ []) q) ∙ ap (λ k. length (restoring K h to n) + k) (sym (cond-true (same? n) 0 1 q))
-        | inr q ↦ ap (λ xs. length (restoring K h to n) + length xs) (cond-false (same? n) [] (e ∷ []) q) ∙ ap (λ k. length (restoring K h to n) + k) (sym (cond-false (same? n) 0 1 q))
-      ]
+      length-append (restoring K h to n) (cond (same? n) [] (e ∷ [])) ∙ ap (λ k. length (restoring K h to n) + k) (through length (same? n) [] (e ∷ []))
 
   all_needs : (n : ℕ) → n ≤ h.cells → all_needed K from to v n ≡ Ok (length (restoring K h to n))
   all_needs zero l = refl
@@ -149,9 +132,9 @@ module _ {PS PC : Type 0} (K : Model PS PC) (L : Laws K) {h : History K.State} {
       let D : Canonical K (back_to n) m = puts_back n (omega arith) (omega arith) in
       let logs : Logs K m.records (writes K es) = logs_front K L (writes K es) (writes_on K es new) m.records (subst (Logs K m.records) (writes_append K es new) D.logs) in
       let head : get_or m.heads n 0 ≡ head_of (writes K es) n =
-      D.heads n in' ∙ writes_head K (es ++ new) n ∙ last_keeps n 0 0 es new (restoring_owned n) ∙ sym (writes_head K es n) in
+      D.heads n in' ∙ writes_head K (es ++ new) n ∙ last_append 0 0 n es new ∙ last_none n (0 + length es) (last_number 0 0 n es) new (restoring_owned n) ∙ sym (writes_head K es n) in
       let state : K.state (held_state K m n) ≡ stood K h n (count h) =
-      D.states n in' ∙ latest_append K.origin n es new ∙ latest_none (latest K.origin n es) n new (restoring_owned n) ∙ sym (present n) in
+      D.states n in' ∙ latest_append K.origin n es new ∙ latest_none (latest K.origin n es) n new (restoring_owned n) ∙ sym (present K h n) in
       let u : PS = t m n logs head state in
       let e : Entry K.State = record { cell = n; state = stood K h n to } in
       let done : put_back K from to m n ≡ kept m (cond (same? n) (Ok m) (written K m n u)) =
@@ -193,22 +176,20 @@ module _ {PS PC : Type 0} (K : Model PS PC) (L : Laws K) {h : History K.State} {
   revert_late : from < to → reverted K v to ≡ Err Moment
   revert_late late = checked ∙ cond-true (ltb from to) (Err Moment) (after_moment from) (lt-ltb from to late)
 
-  module _ (known : to ≤ from) where
-    abbrev final : Memory PS PC
-    final = put_all_back K from to v h.cells
+  abbrev final : Memory PS PC
+  final = put_all_back K from to v h.cells
 
-    counted_all : reverted K v to ≡ refuse_if (ltb h.capacity (from + length all)) Full (Ok final)
-    counted_all =
-        checked ∙ cond-false (ltb from to) (Err Moment) (after_moment from) (le-ltb from to known)
-        ∙ ap (λ n. and_then (all_needed K from to v n) (λ k. refuse_if (ltb (length v.records) (from + k)) Full (Ok (put_all_back K from to v n)))) C.all_cells
-        ∙ ap (λ r. and_then r (λ k. refuse_if (ltb (length v.records) (from + k)) Full (Ok final))) (all_needs h.cells (omega arith))
-        ∙ ap (λ n. refuse_if (ltb n (from + length all)) Full (Ok final)) C.all_records
+  abbrev full? : Bool
+  full? = ltb h.capacity (from + length all)
 
-    revert_full : h.capacity < from + length all → reverted K v to ≡ Err Full
-    revert_full full = counted_all ∙ cond-true (ltb h.capacity (from + length all)) (Err Full) (Ok final) (lt-ltb h.capacity (from + length all) full)
+  all_tried : after_moment from ≡ refuse_if full? Full (Ok final)
+  all_tried =
+      ap (λ n. and_then (all_needed K from to v n) (λ k. refuse_if (ltb (length v.records) (from + k)) Full (Ok (put_all_back K from to v n)))) C.all_cells
+      ∙ ap (λ r. and_then r (λ k. refuse_if (ltb (length v.records) (from + k)) Full (Ok final))) (all_needs h.cells (omega arith))
+      ∙ ap (λ n. refuse_if (ltb n (from + length all)) Full (Ok final)) C.all_records
 
-    revert_taken : from + length all ≤ h.capacity → reverted K v to ≡ Ok final
-    revert_taken fits = counted_all ∙ cond-false (ltb h.capacity (from + length all)) (Err Full) (Ok final) (le-ltb h.capacity (from + length all) fits)
+  reverts : to ≤ from → reverted K v to ≡ refuse_if full? Full (Ok final)
+  reverts known = checked ∙ cond-false (ltb from to) (Err Moment) (after_moment from) (le-ltb from to known) ∙ all_tried
 
   abbrev taken? : Bool
   taken? = leb to from && leb (from + length all) h.capacity
@@ -223,29 +204,19 @@ module _ {PS PC : Type 0} (K : Model PS PC) (L : Laws K) {h : History K.State} {
           | inl full ↦
               subst (λ g. Canonical K g (run K v (revert to)))
               (sym (cond-false taken? (extended h all) h (and_right (leb to from) (leb (from + length all) h.capacity) (lt-leb (from + length all) h.capacity full))))
-              (subst (λ r. Canonical K h (kept v r)) (sym (revert_full known full)) C)
+              (subst (λ r. Canonical K h (kept v r)) (sym (reverts known ∙ cond-true full? (Err Full) (Ok final) (lt-ltb h.capacity (from + length all) full))) C)
           | inr fits ↦
               subst (λ g. Canonical K g (run K v (revert to)))
               (sym (cond-true taken? (extended h all) h (and_from (leb to from) (leb (from + length all) h.capacity) (le-leb to from known) (le-leb (from + length all) h.capacity fits))))
-              (subst (λ r. Canonical K (extended h all) (kept v r)) (sym (revert_taken known fits)) (puts_back h.cells (omega arith) fits))
+              (subst (λ r. Canonical K (extended h all) (kept v r)) (sym (reverts known ∙ cond-false full? (Err Full) (Ok final) (le-ltb h.capacity (from + length all) fits))) (puts_back h.cells (omega arith) fits))
         ]
       ]
 
   pub revert_told : replied K v (revert to) ≡ predicted K h (revert to)
   revert_told =
-      let R : Type 0 = Reply K.State K.Change in
-      let full? : Bool = ltb h.capacity (from + length all) in
-      let there : R = counted (from + length all) in
-      let rest : R = cond full? (refused Full) there in
-      elim (cases_lt from to) [
-        | inl late ↦ ap (λ r. reply counted (count_of r)) (revert_late late) ∙ sym (cond-true (ltb from to) (refused Moment) rest (lt-ltb from to late))
-        | inr known ↦
-            elim (cases_lt h.capacity (from + length all)) [
-              | inl full ↦ ap (λ r. reply counted (count_of r)) (revert_full known full) ∙ sym (cond-true full? (refused Full) there (lt-ltb h.capacity (from + length all) full))
-              | inr fits ↦
-                  ap (λ r. reply counted (count_of r)) (revert_taken known fits)
-                  ∙ ap (λ n. counted n) ((puts_back h.cells (omega arith) fits).counts ∙ length-append es all)
-                  ∙ sym (cond-false full? (refused Full) there (le-ltb h.capacity (from + length all) fits))
-            ]
-            ∙ sym (cond-false (ltb from to) (refused Moment) rest (le-ltb from to known))
-      ]
+      let shown : Result (Memory PS PC) Refusal → Reply K.State K.Change = λ r. reply counted (count_of r) in
+      let there : Reply K.State K.Change = counted (from + length all) in
+      ap shown checked
+      ∙ reply_if shown (ltb from to) Moment (after_moment from) (cond full? (refused Full) there) refl
+      (λ _. ap shown all_tried ∙ reply_if shown full? Full (Ok final) there refl
+      (λ t. ap (λ n. counted n) ((puts_back h.cells (omega arith) (ltb-false h.capacity (from + length all) t)).counts ∙ length-append es all)))

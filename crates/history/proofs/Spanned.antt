@@ -1,6 +1,6 @@
 -- What read and span answer on the memory that a history leaves. Assumes nothing.
 use Rattle.std.proofs.Common.{◌≡◌, ℕ, ◌<◌, ◌≤◌, ◌||◌, ltb, leb, List, length, get_or, Ok, Err, Result, sym, ap, ◌∙◌, arith}
-use Rattle.std.proofs.lemmas.Bool.{cond-true, cond-false, or_from, le-leb, lt-leb, le-ltb}
+use Rattle.std.proofs.lemmas.Bool.{cond-false, or_from, lt-leb, le-ltb}
 use Rattle.kind.specs.Answers.{and_then, refuse_if, refused_as}
 use Rattle.kind.specs.Model.{Model, Laws}
 use Rattle.journal.specs.declared.walk.Stretch.{Stretch}
@@ -16,7 +16,7 @@ use Rattle.volume.specs.declared.refusal.Refusal.{Refusal}
 use Rattle.volume.specs.declared.refusal.Refusal.TheVariants.{Cell, Moment, Ladder}
 use Rattle.history.specs.History.{History, count, entries_of, stood}
 use Rattle.history.specs.Promises.{Spans, Composes}
-use Rattle.history.proofs.Canonical.{Canonical, sound_is}
+use Rattle.history.proofs.Canonical.{Canonical, sound_is, writes_few}
 use Rattle.history.proofs.Entered.{writes, writes_length, writes_count, onward_acts}
 
 module _ {PS PC : Type 0} (K : Model PS PC) (L : Laws K) {h : History K.State} {v : Memory PS PC} (C : Canonical K h v) (c : ℕ) where
@@ -24,41 +24,30 @@ module _ {PS PC : Type 0} (K : Model PS PC) (L : Laws K) {h : History K.State} {
   ws = writes K h.entries
 
   -- read
-  abbrev found : Result PS Refusal
+  abbrev pub found : Result PS Refusal
   found = Ok (get_or v.cells c (origin K))
 
-  looks : state_read K v c ≡ refuse_if (leb (length v.cells) c) Cell found
+  pub looks : state_read K v c ≡ refuse_if (leb h.cells c) Cell found
   unfolding state_read
-  looks = ap (λ r. and_then r (λ _. refuse_if (leb (length v.cells) c) Cell found)) (sound_is K C)
-
-  pub read_no_cell : h.cells ≤ c → state_read K v c ≡ Err Cell
-  read_no_cell out = looks ∙ cond-true (leb (length v.cells) c) (Err Cell) found (le-leb (length v.cells) c (omega (arith, C.all_cells)))
-
-  pub reads : c < h.cells → state_read K v c ≡ found
-  reads in' = looks ∙ cond-false (leb (length v.cells) c) (Err Cell) found (lt-leb (length v.cells) c (omega (arith, C.all_cells)))
+  looks = ap (λ r. and_then r (λ _. refuse_if (leb (length v.cells) c) Cell found)) (sound_is K C) ∙ ap (λ n. refuse_if (leb n c) Cell found) C.all_cells
 
   -- span
   module _ (a b : ℕ) where
-    abbrev walked : Result (Stretch PC) Refusal
+    abbrev pub walked : Result (Stretch PC) Refusal
     walked = refused_as Ladder (spanned K v.records v.count (get_or v.heads c 0) c a b)
 
-    abbrev timed : Result (Stretch PC) Refusal
-    timed = refuse_if (ltb v.count a || ltb v.count b) Moment walked
+    abbrev pub timed : Result (Stretch PC) Refusal
+    timed = refuse_if (ltb (count h) a || ltb (count h) b) Moment walked
 
-    measures : change_between K v c a b ≡ refuse_if (leb (length v.cells) c) Cell timed
+    pub measures : change_between K v c a b ≡ refuse_if (leb h.cells c) Cell timed
     unfolding change_between
-    measures = ap (λ r. and_then r (λ _. refuse_if (leb (length v.cells) c) Cell timed)) (sound_is K C)
+    measures =
+        ap (λ r. and_then r (λ _. refuse_if (leb (length v.cells) c) Cell (refuse_if (ltb v.count a || ltb v.count b) Moment walked))) (sound_is K C)
+        ∙ ap (λ n. refuse_if (leb n c) Cell (refuse_if (ltb v.count a || ltb v.count b) Moment walked)) C.all_cells
+        ∙ ap (λ n. refuse_if (leb h.cells c) Cell (refuse_if (ltb n a || ltb n b) Moment walked)) C.counts
 
-    pub span_no_cell : h.cells ≤ c → change_between K v c a b ≡ Err Cell
-    span_no_cell out = measures ∙ cond-true (leb (length v.cells) c) (Err Cell) timed (le-leb (length v.cells) c (omega (arith, C.all_cells)))
-
-    pub span_in : c < h.cells → change_between K v c a b ≡ refuse_if (ltb (count h) a || ltb (count h) b) Moment walked
-    span_in in' =
-        measures ∙ cond-false (leb (length v.cells) c) (Err Cell) timed (lt-leb (length v.cells) c (omega (arith, C.all_cells)))
-        ∙ ap (λ n. refuse_if (ltb n a || ltb n b) Moment walked) C.counts
-
-  pub few : length ws ≤ 65535
-  few = omega (arith, writes_length K h.entries, C.fits, C.all_records, C.sizes.few_records)
+    span_in : c < h.cells → change_between K v c a b ≡ timed
+    span_in in' = measures ∙ cond-false (leb h.cells c) (Err Cell) timed (lt-leb h.cells c in')
 
   -- what the cell's writes up to a moment come to
   abbrev pub T : ℕ → K.Change
@@ -72,19 +61,19 @@ module _ {PS PC : Type 0} (K : Model PS PC) (L : Laws K) {h : History K.State} {
 
   module _ (in' : c < h.cells) (a b : ℕ) where
     abbrev pub got : Stretch PC
-    got = (span K L (writes K h.entries) v.records C.logs few c a b).got
+    got = (span K L (writes K h.entries) v.records C.logs (writes_few K C) c a b).got
 
     pub spans : spanned K v.records v.count (get_or v.heads c 0) c a b ≡ Ok got
     spans =
         ap (λ n. spanned K v.records n (get_or v.heads c 0) c a b) (C.counts ∙ sym (writes_length K h.entries))
         ∙ ap (λ n. spanned K v.records (length ws) n c a b) (C.heads c in')
-        ∙ (span K L ws v.records C.logs few c a b).answer
+        ∙ (span K L ws v.records C.logs (writes_few K C) c a b).answer
 
     pub walks : walked a b ≡ Ok got
     walks = ap (refused_as Ladder) spans
 
     pub got_is : K.change got.change ≡ onward K (T a) (T b)
-    got_is = (span K L ws v.records C.logs few c a b).is
+    got_is = (span K L ws v.records C.logs (writes_few K C) c a b).is
 
     pub span_answered : a ≤ count h → b ≤ count h → change_between K v c a b ≡ Ok got
     span_answered x y =
@@ -105,7 +94,7 @@ module _ {PS PC : Type 0} (K : Model PS PC) (L : Laws K) {h : History K.State} {
         k = digits.0;
         not_above = digits.1;
         greatest = digits.2;
-        few_steps = (span K L ws v.records C.logs few c a b).few digits.0 (omega (arith, n)) (omega (arith, n));
+        few_steps = (span K L ws v.records C.logs (writes_few K C) c a b).few digits.0 (omega (arith, n)) (omega (arith, n));
       }
 
   pub spans_compose : (x y z : ℕ) → c < h.cells → x ≤ count h → y ≤ count h → z ≤ count h → Composes K v c x y z

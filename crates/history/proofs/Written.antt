@@ -1,7 +1,7 @@
 -- What format and write make of the memory that a history leaves. Assumes nothing.
-use Rattle.std.proofs.Common.{◌≡◌, ℕ, ◌+◌, ◌<◌, ◌≤◌, cond, eqb, leb, List, [], ◌∷◌, ◌++◌, length, get_or, take, set, Ok, Err, Result, sym, ap, ◌∙◌, inl, inr, arith}
-use Rattle.std.proofs.lemmas.List.{get_or-set_same, get_or-set_other, length-set, length_push, take_more_set}
-use Rattle.std.proofs.lemmas.Bool.{cases_eq, cond-true, cond-false, eq-eqb, ne_eqb, le-leb, lt-leb}
+use Rattle.std.proofs.Common.{◌≡◌, ℕ, ◌+◌, ◌<◌, ◌≤◌, cond, eqb, leb, List, [], ◌∷◌, ◌++◌, length, get_or, take, set, Ok, Err, Result, sym, ap, ◌∙◌, arith}
+use Rattle.std.proofs.lemmas.List.{length-set, length_push, take_more_set}
+use Rattle.std.proofs.lemmas.Bool.{cond-true, cond-false, le-leb, lt-leb}
 use Rattle.kind.specs.Answers.{and_then, refuse_if, refused_as}
 use Rattle.kind.specs.Model.{Model, Laws}
 use Rattle.journal.specs.declared.record.Record.{Record}
@@ -11,10 +11,13 @@ use Rattle.logs.specs.Writes.{Write, head_of, log_of}
 use Rattle.logs.proofs.Proved.{never_refused_lem, head_moves_lem}
 use Rattle.volume.specs.Calls.{origin, difference, logged, formatted, written, emptied}
 use Rattle.volume.specs.Memory.{Memory, memory}
+use Rattle.volume.specs.Sizes.{sized}
 use Rattle.volume.specs.declared.refusal.Refusal.{Refusal}
 use Rattle.volume.specs.declared.refusal.Refusal.TheVariants.{Cell, Full, Ladder}
-use Rattle.history.specs.History.{History, Entry, count, appended, latest}
-use Rattle.history.proofs.Canonical.{Sizes, sized_ok, sized_cases, owned_append, Canonical, sound_is}
+use Rattle.history.specs.History.{History, Entry, count, appended}
+use Rattle.history.proofs.Canonical.{Sizes, sized_ok, sized_only, owned_append, Canonical, sound_is, writes_few}
+use Rattle.history.proofs.Images.{set_read}
+use Rattle.history.proofs.Results.{then_ok}
 use Rattle.history.proofs.Entered.{writes, write_of, writes_append, writes_length, latest_append}
 
 module _ {PS PC : Type 0} (K : Model PS PC) where
@@ -26,10 +29,8 @@ module _ {PS PC : Type 0} (K : Model PS PC) where
   pub formats_only : (m v : Memory PS PC) → formatted K m ≡ Ok v → Sizes (length m.cells) (length m.heads) (length m.records) × (emptied K m ≡ v)
   unfolding formatted
   formats_only m v e =
-      elim (sized_cases (length m.cells) (length m.heads) (length m.records)) [
-        | inl z ↦ (let same : Ok (emptied K m) ≡ Ok v = sym (ap (λ r. and_then r (λ _. Ok (emptied K m))) (sized_ok z)) ∙ e in (z, cc))
-        | inr bad ↦ (let never : Err bad.0 ≡ Ok v = sym (ap (λ r. and_then r (λ _. Ok (emptied K m))) bad.1) ∙ e in let z : ◌≡◌ {A = ℕ} 0 1 = cc in absurd (omega arith))
-      ]
+      let (x, p, same) = then_ok (sized (length m.cells) (length m.heads) (length m.records)) (λ _. Ok (emptied K m)) v e in
+      (sized_only (length m.cells) (length m.heads) (length m.records) x p, cc)
 
   module _ (L : Laws K) {h : History K.State} {v : Memory PS PC} (C : Canonical K h v) (c : ℕ) (s : PS) where
     abbrev pub es : List (Entry K.State)
@@ -62,43 +63,37 @@ module _ {PS PC : Type 0} (K : Model PS PC) where
       pub size : length ws ≡ count h
       size = writes_length K es
 
-      pub few : length ws ≤ 65535
-      few = omega (arith, size, C.fits, C.all_records, C.sizes.few_records)
-
       -- the record that is logged
       abbrev pub r : Record PC
-      r = (never_refused_lem K L ws v.records C.logs few c f).0
+      r = (never_refused_lem K L ws v.records C.logs (writes_few K C) c f).0
 
       pub plans : planned K v.records (v.count + 1) (get_or v.heads c 0) c f ≡ Ok r
       plans =
           ap (λ n. planned K v.records (n + 1) (get_or v.heads c 0) c f) (C.counts ∙ sym size)
           ∙ ap (λ n. planned K v.records (length ws + 1) n c f) (C.heads c in')
-          ∙ (never_refused_lem K L ws v.records C.logs few c f).1
+          ∙ (never_refused_lem K L ws v.records C.logs (writes_few K C) c f).1
 
       logs : logged K v.records v.count (v.count + 1) (get_or v.heads c 0) c f ≡ stored r
       unfolding logged
       logs = ap (λ x. and_then (refused_as Ladder x) stored) plans
 
-      reaches : written K v c s ≡ and_then (stored r) moved
-      reaches =
-          checked ∙ cond-false (leb (length v.cells) c) (Err Cell) tried (lt-leb (length v.cells) c (omega (arith, C.all_cells)))
-          ∙ ap (λ x. and_then x moved) logs
+      tries : written K v c s ≡ tried
+      tries = checked ∙ cond-false (leb (length v.cells) c) (Err Cell) tried (lt-leb (length v.cells) c (omega (arith, C.all_cells)))
 
       pub write_full : h.capacity ≤ count h → written K v c s ≡ Err Full
       write_full full =
-          reaches ∙ ap (λ x. and_then x moved) (cond-true (leb (length v.records) v.count) (Err Full) (Ok (set v.records v.count r)) (le-leb (length v.records) v.count (omega (arith, C.all_records, C.counts))))
+          tries ∙ ap (λ x. and_then x moved) (logs ∙ cond-true (leb (length v.records) v.count) (Err Full) (Ok (set v.records v.count r)) (le-leb (length v.records) v.count (omega (arith, C.all_records, C.counts))))
 
       abbrev pub after : Memory PS PC
       after = memory (set v.cells c s) (set v.heads c (v.count + 1)) (set v.records v.count r) (v.count + 1)
 
-      pub write_taken : count h < h.capacity → written K v c s ≡ Ok after
-      write_taken some =
-          reaches ∙ ap (λ x. and_then x moved) (cond-false (leb (length v.records) v.count) (Err Full) (Ok (set v.records v.count r)) (lt-leb (length v.records) v.count (omega (arith, C.all_records, C.counts))))
-
       pub tried_taken : count h < h.capacity → tried ≡ Ok after
       tried_taken some =
-          ap (λ x. and_then x moved) logs
-          ∙ ap (λ x. and_then x moved) (cond-false (leb (length v.records) v.count) (Err Full) (Ok (set v.records v.count r)) (lt-leb (length v.records) v.count (omega (arith, C.all_records, C.counts))))
+          ap (λ x. and_then x moved)
+          (logs ∙ cond-false (leb (length v.records) v.count) (Err Full) (Ok (set v.records v.count r)) (lt-leb (length v.records) v.count (omega (arith, C.all_records, C.counts))))
+
+      pub write_taken : count h < h.capacity → written K v c s ≡ Ok after
+      write_taken some = tries ∙ tried_taken some
 
       -- the entry that it adds, and its write
       abbrev e : Entry K.State
@@ -123,7 +118,7 @@ module _ {PS PC : Type 0} (K : Model PS PC) where
           ∙ take_more_set v.records v.count r (at_count some)
           ∙ ap (λ n. take n v.records ++ r ∷ []) (C.counts ∙ sym size)
           ∙ ap (λ us. us ++ r ∷ []) C.logs
-          ∙ sym (ap (log_of K) grown ∙ (never_refused_lem K L ws v.records C.logs few c f).5)
+          ∙ sym (ap (log_of K) grown ∙ (never_refused_lem K L ws v.records C.logs (writes_few K C) c f).5)
 
       pub write_canonical : count h < h.capacity → Canonical K (appended h c (K.state s)) after
       write_canonical some =
@@ -140,24 +135,11 @@ module _ {PS PC : Type 0} (K : Model PS PC) where
             counts = ap (λ n. n + 1) C.counts ∙ sym (length_push es e);
             fits = omega (arith, length_push es e);
             owned = owned_append h.cells es (e ∷ []) C.owned (in', tt);
-            states = λ i l. elim (cases_eq c i) [
-              | inl own ↦
-                  ap (λ k. K.state (get_or (set v.cells c s) k (origin K))) (sym own)
-                  ∙ ap K.state (get_or-set_same v.cells c s (origin K) (omega (arith, C.all_cells)))
-                  ∙ sym (now i ∙ cond-true (eqb c i) (K.state s) (latest K.origin i es) (eq-eqb c i own))
-              | inr other ↦
-                  ap K.state (get_or-set_other v.cells c i s (origin K) (λ d. other (sym d))) ∙ C.states i l
-                  ∙ sym (now i ∙ cond-false (eqb c i) (K.state s) (latest K.origin i es) (ne_eqb c i other))
-            ];
-            heads = λ i l. elim (cases_eq c i) [
-              | inl own ↦
-                  ap (λ k. get_or (set v.heads c (v.count + 1)) k 0) (sym own)
-                  ∙ get_or-set_same v.heads c (v.count + 1) 0 (omega (arith, C.all_cells, C.sizes.even))
-                  ∙ ap (λ n. n + 1) (C.counts ∙ sym size)
-                  ∙ sym (new_heads i ∙ cond-true (eqb c i) (length ws + 1) (head_of ws i) (eq-eqb c i own))
-              | inr other ↦
-                  get_or-set_other v.heads c i (v.count + 1) 0 (λ d. other (sym d)) ∙ C.heads i l
-                  ∙ sym (new_heads i ∙ cond-false (eqb c i) (length ws + 1) (head_of ws i) (ne_eqb c i other))
-            ];
+            states = λ i l.
+                set_read K.state v.cells c i s (origin K) (omega (arith, C.all_cells)) ∙ ap (cond (eqb c i) (K.state s)) (C.states i l) ∙ sym (now i);
+            heads = λ i l.
+                set_read (λ (k : ℕ). k) v.heads c i (v.count + 1) 0 (omega (arith, C.all_cells, C.sizes.even))
+                ∙ ap (λ k. cond (eqb c i) k (get_or v.heads i 0)) (ap (λ n. n + 1) (C.counts ∙ sym size))
+                ∙ ap (cond (eqb c i) (length ws + 1)) (C.heads i l) ∙ sym (new_heads i);
             logs = new_log some;
           }

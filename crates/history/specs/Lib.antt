@@ -5,3 +5,4 @@ pub mod Calls
 pub mod Promises
 pub mod Soundness
 pub mod Worked
+pub mod Owner

@@ -1,6 +1,7 @@
 -- How many writes to a cell there are up to a moment, and what they did to it. Assumes nothing.
 use Rattle.std.proofs.Common.{◌≡◌, ℕ, zero, suc, ◌+◌, ◌-◌, ◌<◌, ◌≤◌, Bool, true, false, cond, eqb, ltb, List, [], ◌∷◌, ◌++◌, length, take, drop, sym, refl, ap, ◌∙◌, inl, inr, arith}
 use Rattle.std.proofs.lemmas.List.{append_assoc, append-nil, length-append, length_push, nil_from_length, take-append-drop, take-take, drop-take, take_all, take_at}
+use Rattle.std.proofs.lemmas.Bool.Decides.{nat_tests}
 use Rattle.std.proofs.lemmas.Bool.{cases_lt, cases_Bool, cond-true, cond-false, lt-ltb, le-ltb, eq-eqb, ne_eqb}
 use Rattle.kind.specs.Model.{Model, Laws}
 use Rattle.logs.specs.Writes.{Write, head_after, head_of, change_to, changes_to, composed, between, writes_to}
@@ -92,11 +93,7 @@ module _ {PS PC : Type 0} (K : Model PS PC) where
 
   -- no more changes than writes
   change_one : (c : ℕ) (w : Write PC) → length (change_to K c w) ≤ 1
-  change_one c w =
-      elim (cases_Bool (eqb w.cell c)) [
-        | inl t ↦ omega (arith, ap length (here_one c w t))
-        | inr t ↦ omega (arith, ap length (here_none c w t))
-      ]
+  change_one c w = grind (arith, nat_tests)
 
   pub changes_few : (c : ℕ) (ws : List (Write PC)) → length (changes_to K c ws) ≤ length ws
   changes_few c [] = omega arith

@@ -1,13 +1,13 @@
 -- The theorems of specs/Theorems.antt. Assumes nothing.
-use Rattle.std.proofs.Common.{◌≡◌, ℕ, ◌+◌, ◌-◌, ◌*◌, ◌≤◌, Bool, cond, eqb, ltb, List, [], ◌∷◌, ◌++◌, length, get_or, Ok, sym, refl, ap, ◌∙◌, subst, inl, inr, arith}
+use Rattle.std.proofs.Common.{◌≡◌, ℕ, ◌+◌, ◌-◌, ◌*◌, ◌≤◌, List, [], ◌∷◌, ◌++◌, length, get_or, Ok, sym, refl, ap, ◌∙◌, subst, arith}
 use Rattle.std.proofs.lemmas.List.{append-nil, append_assoc, length-append, length_push, get_or_push, get_or-take}
-use Rattle.std.proofs.lemmas.Bool.{cases_Bool, lt-ltb, cond-true, cond-false}
+use Rattle.std.proofs.lemmas.Bool.Decides.{nat_tests}
 use Rattle.kind.specs.Model.{Model, Laws}
 use Rattle.journal.specs.declared.record.Record.{Record}
 use Rattle.journal.specs.declared.walk.Stretch.{Stretch}
 use Rattle.journal.specs.Links.{blank, numbered}
 use Rattle.journal.specs.Spans.{spanned}
-use Rattle.logs.specs.Writes.{Write, head_after, head_of, log_of}
+use Rattle.logs.specs.Writes.{Write, head_of, log_of}
 use Rattle.logs.specs.Theorems.{Logs, NeverRefused, HeadMoves, SpansRight, StepsFew, EachRecord}
 use Rattle.logs.proofs.Algebra.{onward_back}
 use Rattle.logs.proofs.Counted.{Place, depth, total, depth_all, depth_last, between_is, head_place}
@@ -73,15 +73,4 @@ module _ {PS PC : Type 0} (K : Model PS PC) (L : Laws K) where
 
 pub head_moves_lem : {PS PC : Type 0} (K : Model PS PC) → HeadMoves K
 head_moves_lem K [] w c = refl
-head_moves_lem K (u ∷ ws) w c =
-    let here : Bool = eqb u.cell c in
-    let own : Bool = eqb w.cell c in
-    let n : ℕ = length ws in
-    ap (head_after here) (head_moves_lem K ws w c)
-    ∙ elim (cases_Bool own) [
-      | inl t ↦
-          ap (head_after here) (cond-true own (n + 1) (head_of ws c) t)
-          ∙ cond-true (ltb 0 (n + 1)) (n + 1 + 1) (cond here 1 0) (lt-ltb 0 (n + 1) (omega arith))
-          ∙ omega arith ∙ sym (cond-true own (length (u ∷ ws) + 1) (head_of (u ∷ ws) c) t)
-      | inr t ↦ ap (head_after here) (cond-false own (n + 1) (head_of ws c) t) ∙ sym (cond-false own (length (u ∷ ws) + 1) (head_of (u ∷ ws) c) t)
-    ]
+head_moves_lem K (u ∷ ws) w c = (let before = head_moves_lem K ws w c in grind (arith, nat_tests))

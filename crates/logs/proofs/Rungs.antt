@@ -1,12 +1,13 @@
 -- What each record of a cell's ladder is, and that a record planned on such a ladder is such a record. Assumes nothing.
-use Rattle.std.proofs.Common.{◌≡◌, ℕ, ◌+◌, ◌-◌, ◌<◌, ◌≤◌, cond, ◌&&◌, eqb, ltb, leb, List, length, Ok, Err, Result, sym, refl, ap, ◌∙◌, inl, inr, arith}
-use Rattle.std.proofs.lemmas.Bool.{cases_lt, cases_eq, or_left, or_right, and_from, le-leb, le-ltb, eq-eqb, ne_eqb, cond-true, cond-false}
+use Rattle.std.proofs.Common.{◌≡◌, ℕ, ◌+◌, ◌-◌, ◌<◌, ◌≤◌, cond, eqb, ltb, List, length, Ok, Err, Result, sym, refl, ap, ◌∙◌, inl, inr, arith}
+use Rattle.std.proofs.lemmas.Bool.Decides.{nat_tests}
+use Rattle.std.proofs.lemmas.Bool.{cases_lt, cases_eq, le-ltb, eq-eqb, ne_eqb, cond-true, cond-false}
 use Rattle.kind.specs.Model.{Model, Laws}
 use Rattle.journal.specs.declared.record.Record.{Record}
 use Rattle.journal.specs.declared.faults.LadderFault.{LadderFault}
-use Rattle.journal.specs.declared.faults.LadderFault.TheVariants.{Link, Length}
+use Rattle.journal.specs.declared.faults.LadderFault.TheVariants.{Length}
 use Rattle.kind.specs.Answers.{and_then}
-use Rattle.journal.specs.Links.{newest, numbered, good, follow}
+use Rattle.journal.specs.Links.{newest, numbered, follow}
 use Rattle.journal.specs.Spans.{followed}
 use Rattle.journal.specs.Appends.{lone, joined, over, planned}
 use Rattle.logs.proofs.Algebra.{onward, onward_is, onward_joins}
@@ -60,13 +61,8 @@ module _ {PS PC : Type 0} (K : Model PS PC) (L : Laws K) (D : ℕ → ℕ) (T : 
   pub link_good : (c : ℕ) (rs : List (Record PC)) (n : ℕ) → Faithful K D T c rs n →
       (limit holder link i : ℕ) → limit ≤ n → link ≤ limit → Place D i link → follow K rs c limit holder link ≡ Ok link
   link_good c rs n F limit holder link i low below p =
-      cond-true (good K rs c limit link) (Ok link) (Err (Link c holder))
-      (elim (cases_lt 0 link) [
-        | inl l ↦ or_right (eqb link 0) (leb link limit && eqb (numbered K rs link).cell c)
-            (and_from (leb link limit) (eqb (numbered K rs link).cell c) (le-leb link limit below)
-            (eq-eqb (numbered K rs link).cell c (F link l (omega arith) (p.first l)).of_cell))
-        | inr o ↦ or_left (eqb link 0) (leb link limit && eqb (numbered K rs link).cell c) (eq-eqb link 0 (omega arith))
-      ])
+      let cell : 1 ≤ link → (numbered K rs link).cell ≡ c = λ l. (F link l (omega arith) (p.first l)).of_cell in
+      grind (arith, nat_tests)
 
   -- one more write to the cell, after n writes of which the last to the cell is h
   module _ (c n h : ℕ) (f : PC) (head : Place D (D n) h) (up : D (n + 1) ≡ D n + 1) (adds : T (n + 1) ≡ K.then (T n) (K.change f)) where

@@ -1,7 +1,8 @@
 -- What a walk over a cell's ladder takes, where it stops and in how many steps; and a span, which is two walks. Assumes nothing.
-use Rattle.std.proofs.Common.{◌≡◌, ℕ, zero, suc, ◌+◌, ◌-◌, ◌*◌, ◌^◌, ◌<◌, ◌≤◌, min, ltb, leb, List, length, Ok, sym, refl, ap, ◌∙◌, subst, inl, inr, arith}
+use Rattle.std.proofs.Common.{◌≡◌, ℕ, zero, suc, ◌+◌, ◌-◌, ◌*◌, ◌^◌, ◌<◌, ◌≤◌, min, ltb, leb, List, length, Ok, Result, sym, refl, ap, ◌∙◌, subst, inl, inr, arith}
 use Rattle.std.proofs.lemmas.Bool.{cases_lt, le-leb, lt-leb, lt-ltb, le-ltb, cond-true, cond-false}
 use Rattle.kind.specs.Model.{Model, Laws}
+use Rattle.journal.specs.declared.faults.LadderFault.{LadderFault}
 use Rattle.journal.specs.declared.record.Record.{Record}
 use Rattle.journal.specs.declared.walk.Walked.{Walked}
 use Rattle.journal.specs.declared.walk.Stretch.{Stretch}
@@ -143,11 +144,17 @@ module _ {PS PC : Type 0} (K : Model PS PC) (L : Laws K) (D : ℕ → ℕ) (T : 
 
   -- the changes between two moments; h is the cell's head, and nothing comes after n
   module _ (h : ℕ) (head : Place D (D n) h) (last : (m : ℕ) → D m ≤ D n) where
-    pub record Climbed (low high : ℕ) : Type 0 where
+    pub record Found (r : Result (Stretch PC) LadderFault) (a b : ℕ) : Type 0 where
       pub got : Stretch PC
-      pub answer : ascent K rs n h c low high ≡ Ok got
-      pub is : K.change got.change ≡ onward K (T low) (T high)
+      pub answer : r ≡ Ok got
+      pub is : K.change got.change ≡ onward K (T a) (T b)
       pub few : (k : ℕ) → 2 ^ k ≤ D n + 1 → D n + 1 < 2 ^ (k + 1) → got.steps ≤ 6 * k
+
+    abbrev Climbed : ℕ → ℕ → Type 0
+    Climbed low high = Found (ascent K rs n h c low high) low high
+
+    abbrev pub Spanned : ℕ → ℕ → Type 0
+    Spanned a b = Found (spanned K rs n h c a b) a b
 
     under : h ≤ n
     under = place_low K L D T S (D n) h n head (omega arith)
@@ -199,12 +206,6 @@ module _ {PS PC : Type 0} (K : Model PS PC) (L : Laws K) (D : ℕ → ℕ) (T : 
     climb_right low high up = second_walk low high up (walk_from h high under (record { deep = refl; first = head.first }))
 
     -- a span in either direction
-    pub record Spanned (a b : ℕ) : Type 0 where
-      pub got : Stretch PC
-      pub answer : spanned K rs n h c a b ≡ Ok got
-      pub is : K.change got.change ≡ onward K (T a) (T b)
-      pub few : (k : ℕ) → 2 ^ k ≤ D n + 1 → D n + 1 < 2 ^ (k + 1) → got.steps ≤ 6 * k
-
     span_up : (a b : ℕ) → a ≤ b → Climbed a b → Spanned a b
     span_up a b up C =
         record {

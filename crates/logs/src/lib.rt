@@ -6,36 +6,27 @@ ghost use Rattle.logs.specs.Theorems.{NeverRefused, HeadMoves, SpansRight, Steps
 use kind::Kind;
 
 // A log left by writes takes one more.
-pub fn never_refused<K: Kind>() -> u8
+pub fn never_refused<K: Kind>()
     ensures { NeverRefused K.Kind.model }
-{
-    0
-}
+{}
 
 // A write becomes the head of its cell.
-pub fn head_moves<K: Kind>() -> u8
+pub fn head_moves<K: Kind>()
     ensures { HeadMoves K.Kind.model }
-{
-    0
-}
+{}
 
 // A span is what the writes between its moments did to the cell.
-pub fn spans_right<K: Kind>() -> u8
+pub fn spans_right<K: Kind>()
     ensures { SpansRight K.Kind.model }
-{
-    0
-}
+{}
 
 // A span takes few steps.
-pub fn steps_few<K: Kind>() -> u8
+#[tactic(auto, using(crate::proofs::Proved::steps_few_lem))]
+pub fn steps_few<K: Kind>()
     ensures { StepsFew K.Kind.model }
-{
-    0
-}
+{}
 
 // Each record is the one that its write makes.
-pub fn each_record<K: Kind>() -> u8
+pub fn each_record<K: Kind>()
     ensures { EachRecord K.Kind.model }
-{
-    0
-}
+{}
