@@ -1,7 +1,7 @@
 -- The loops over arrangements, as facts about lists. Assumes nothing.
 use Rattle.std.proofs.Common.{◌≡◌, ℕ, suc, ◌+◌, ◌<◌, ◌≤◌, Bool, true, false, eqb, ◌⊎◌, List, length, get_or, take, set, sym, refl, ap, ◌∙◌, inl, inr, add-one, arith, below_more}
 use Rattle.std.proofs.lemmas.List.{ext_get_or, length-map, get_or-set_same, get_or-set_other, take_all}
-use Rattle.std.proofs.lemmas.Bool.{cases_eq, eq-eqb, ne_eqb}
+use Rattle.std.proofs.lemmas.Bool.{cases_eq, eq-eqb, ne_eqb, false_from_ne_true}
 use Rattle.kind.specs.Arrangements.{arrangement?, place, count, through, inverted}
 use Rattle.kind.specs.Laws.Arrangements.{bit, bit_le, arr_length, arr_low, arr_place, arr_apart, arr_once, arrangement_from_counts, count_more, count_front, get_or_through, get_or_inverted, length_inverted}
 
@@ -27,26 +27,22 @@ module _ (f : List ℕ) (ok : arrangement? f ≡ true) where
       let at = arr_place f ok k k' in
       ap (λ j. get_or out j 0) (sym at.1) ∙ h (place k f) at.0 ∙ sym (get_or_inverted f k k'))
 
-pub refuted : (b : Bool) → (b ≡ true → ⊥) → false ≡ b
-refuted true h = absurd (h refl)
-refuted false h = refl
-
 pub other_length : (xs : List ℕ) → (length xs ≡ 16 → ⊥) → arrangement? xs ≡ false
-other_length xs h = sym (refuted (arrangement? xs) (λ ok. h (arr_length xs ok)))
+other_length xs h = false_from_ne_true (arrangement? xs) (λ ok. h (arr_length xs ok))
 
 -- the loop that finds out whether a list is an arrangement: `seen` says which numbers have been met
 module _ (xs : List ℕ) (n : length xs ≡ 16) (i : ℕ) (p : i < 16) where
   pub too_high : 16 ≤ get_or xs i 0 → false ≡ arrangement? xs
-  too_high h = refuted (arrangement? xs) (λ ok. let l = arr_low xs ok i p in omega arith)
+  too_high h = sym (false_from_ne_true (arrangement? xs) (λ ok. let l = arr_low xs ok i p in omega arith))
 
   pub met_again : get_or xs i 0 < 16 → count (get_or xs i 0) (take i xs) ≡ 1 → false ≡ arrangement? xs
-  met_again h e = refuted (arrangement? xs) (λ ok.
+  met_again h e = sym (false_from_ne_true (arrangement? xs) (λ ok.
       let x = get_or xs i 0 in
       let o = arr_once xs ok x h in
       let m = count_more x xs i (omega arith) in
       let s : bit (eqb x x) ≡ 1 = ap bit (eq-eqb x x refl) in
       let f = count_front x xs (suc i) in
-      omega arith)
+      omega arith))
 
   pub seen_more : (seen : List Bool) → length seen ≡ 16 → get_or xs i 0 < 16 → get_or seen (get_or xs i 0) false ≡ false → ((k : ℕ) → k < 16 → count k (take i xs) ≡ bit (get_or seen k false)) → (k : ℕ) → k < 16 → count k (take (i + 1) xs) ≡ bit (get_or (set seen (get_or xs i 0) true) k false)
   seen_more seen m low new h k l =

@@ -3,7 +3,7 @@ use Rattle.std.proofs.Common.{◌≡◌, ℕ, suc, ◌+◌, ◌-◌, ◌*◌, �
 use mir.Val.{sel}
 use Rattle.std.proofs.lemmas.List.FromFn.{get_or-range_with_len}
 use Rattle.std.proofs.lemmas.Int.{of_z-to_z, to_z_pos, ints}
-use Rattle.std.proofs.lemmas.Bool.{cases_lt, le-ltb}
+use Rattle.std.proofs.lemmas.Bool.{cases_lt, le-ltb, false_from_ne_true}
 use Rattle.kind.specs.Arrangements.{arrangement?, once_below?, place, count, through, inverted}
 use Rattle.kind.specs.BankMaps.{in_order}
 use Rattle.kind.specs.Blocks.{zeros}
@@ -13,7 +13,6 @@ use Rattle.kind.specs.Xors.{xors}
 use Rattle.kind.specs.Laws.Arrangements.{arr_length, arr_low, arr_place, arr_only, arr_apart, arrangement_once, count_has, count_few, get_or_through, get_or_inverted, through_passes, inverted_passes}
 use Rattle.kind.specs.Laws.Passing.{taken_list, taken_other}
 use Rattle.kind.specs.Laws.Xors.{block_length, block_bytes, block_passes, get_or_xors, xors_passes}
-use Rattle.kind.proofs.ArrangementLoops.{refuted}
 
 -- blocks
 
@@ -168,7 +167,7 @@ maps_compose_lem = record {
   difference = λ s t p q. rw (map_itself s p, map_itself t q) (between_meant s t p q);
   origin = in_order_meant;
   unit = in_order_meant;
-  otherwise = λ xs none. let e = taken_other in_order xs (sym (refuted (arrangement? xs) (λ ok. none ((arrangements_permute xs).0 ok)))) in (e, e);
+  otherwise = λ xs none. let e = taken_other in_order xs (false_from_ne_true (arrangement? xs) (λ ok. none ((arrangements_permute xs).0 ok))) in (e, e);
 }
 
 pub order_counts : OrderCounts

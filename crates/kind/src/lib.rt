@@ -24,6 +24,7 @@ pub enum KindFault {
 
 // A kind of cell. Its states and changes lie in memory as plain values; `model` says what each is taken for, and what the
 // calls answer. No call refuses, but for the reading of bytes that are no change.
+// No trait of groups stands below it: the changes of a kind need not be of one type with its states, as those on board are.
 pub trait Kind {
     // The plain type of a state.
     type State: Copy;
@@ -35,12 +36,13 @@ pub trait Kind {
 
     ghost laws: { Laws model };
 
-    // Stands for the kind in a file; `letter_is` ties it to the model.
+    // `LETTER` as clauses name it.
     ghost LETTER: { ℕ };
 
+    // Stands for the kind in a file.
     const LETTER: char;
 
-    // How many bytes the form of a state or a change has.
+    // How many bytes the form of a state or a change has. A function: a kind made of two kinds works it out from theirs.
     fn width() -> usize
         ensures { result ≡ model.width };
 
