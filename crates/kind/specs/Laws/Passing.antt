@@ -34,3 +34,6 @@ module _ {ok : List ℕ → Bool} where
   read_only z xs x e =
       let r = read_ok (ok xs) (taken z xs) x NotAChange e in
       sym (taken_list z xs r.0) ∙ ap (λ (k : Passing ok). k.list) r.1
+
+  pub read_refused : (z : Passing ok) (xs : List ℕ) → ok xs ≡ false → read_list z xs ≡ Err NotAChange
+  read_refused z xs h = cond-false (ok xs) (Ok (taken z xs)) (Err NotAChange) h

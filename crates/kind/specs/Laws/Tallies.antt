@@ -5,7 +5,7 @@ use mathlib.Core.HLevel.{is_prop→PathP}
 use Rattle.std.proofs.Math.Bridge.{le_prop}
 use Rattle.std.specs.Int.{w32}
 use Rattle.std.proofs.lemmas.Int.{of_z-to_z}
-use Rattle.std.proofs.lemmas.Bool.{eqb-true, eq-eqb, and_parts, lt-ltb}
+use Rattle.std.proofs.lemmas.Bool.{eqb-true, eq-eqb, and_parts, and_from, lt-ltb}
 use Rattle.kind.specs.declared.KindFault.TheVariants.{NotAChange}
 use Rattle.kind.specs.Bytes.{bytes?, le32}
 use Rattle.kind.specs.Model.{Laws}
@@ -82,3 +82,6 @@ tally_laws = record {
   state_width = λ s. (refl, form_bytes s);
   state_apart = form_apart;
 }
+
+pub word_read_is : (bs : List ℕ) → length bs ≡ 4 → bytes? bs ≡ true → word_read bs ≡ Ok (word (le32 bs))
+word_read_is bs h t = ap (λ b. cond b (Ok (word (le32 bs))) (Err NotAChange)) (and_from (length bs == 4) (bytes? bs) (eq-eqb (length bs) 4 h) t)
