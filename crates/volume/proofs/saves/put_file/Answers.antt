@@ -23,5 +23,5 @@ returns g c =
     let rs = c.args.records.now in
     let out = c.write_header.new.out in
     let all : c.loop-i.i ≡ c.args.count = omega arith in
-    let head = header_put K laws c.args.cells c.args.count g.K.Kind.LETTER c.write_header.result c.args.area.now out g.K.Kind.letter_is (omega arith) c.write_header.ensures.done c.write_header.ensures.area in
+    let head = header_put K laws c.args.cells c.args.count c.LETTER.result c.write_header.result c.args.area.now out (c.LETTER.ensures ∙ g.met.K.Kind.letter_is) (omega arith) c.write_header.ensures.done c.write_header.ensures.area in
     c.loop-i.invariant ∙ ap (λ n. written K c.args.cells c.args.count (lines_of K rs n) out) all ∙ laid_behind K laws rs c.args.cells c.args.count c.args.count out c.args.area.now head
