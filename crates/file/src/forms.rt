@@ -1,4 +1,4 @@
-// Writes a file's header and its records.
+// Writes a file's header and its records. A write answers a bool, since its clauses choose by that value.
 ghost use Rattle.std.specs.Prelude.{◌≡◌, ◌+◌, ◌≤◌, ◌&&◌, ◌++◌, length, take, drop, if◌then◌else◌, nat_le, nat_lt};
 ghost use Rattle.file.specs.Back.{AnyHeaderBack, HeaderBack, RecordBack, ChangeBack, Placed, Long, WrittenInTurn};
 ghost use Rattle.file.specs.Forms.{le16_form, le32_form, header_form, record_form, laid_at, record_laid};
@@ -9,7 +9,7 @@ use crate::records::{RECORD, start_of};
 use kind::Kind;
 use kind::forms::put;
 
-// The eight bytes of a header.
+// The eight bytes of a header, from its parts: `byteorder` would want an area to write them into.
 fn header_bytes(letter: u8, cells: u16, count: u32) -> [u8; 8]
     ensures { result ≡ header_form letter cells count }
 {

@@ -7,7 +7,6 @@ pub mod forms;
 pub mod header;
 pub mod items;
 pub mod letters;
-mod numbers;
 pub mod records;
 pub mod saved;
 pub mod states;

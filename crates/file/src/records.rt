@@ -6,7 +6,7 @@ ghost use Rattle.file.specs.Records.{record_start, parts_of, parts_seen, record_
 
 use crate::faults::FileFault;
 use crate::header::HEADER;
-use crate::numbers::{u16_at, u32_at};
+use byteorder::{ByteOrder, LittleEndian};
 use kind::Kind;
 
 // The bytes of a record before its change.
@@ -46,8 +46,8 @@ pub(crate) fn saved_at(file: &[u8], start: usize, width: usize) -> SavedRecord<'
 {
     let bytes = &file[start..start + RECORD + width];
     SavedRecord {
-        next: u32_at(bytes, 0),
-        cell: u16_at(bytes, 4),
+        next: LittleEndian::read_u32(bytes),
+        cell: LittleEndian::read_u16(&bytes[4..]),
         change: &bytes[RECORD..],
     }
 }
@@ -57,6 +57,7 @@ pub fn record_at(file: &[u8], width: usize, n: u32) -> Result<SavedRecord<'_>, F
     ensures value { result_map_both parts_seen (λ e. e) result ≡ record_at width file.now n }
     ensures place { IfOk result (λ s. Lies file.entry (6 + record_start width n) s.change) }
 {
+    // Tested here, and not by `get`, which does not tell where in the file its answer lies.
     if width > WIDEST || n == 0 || file.len() < HEADER + n as usize * (RECORD + width) {
         return Err(FileFault::Length);
     }

@@ -8,8 +8,8 @@ ghost use Rattle.file.specs.Records.{record_start, record_bytes, parts_of, parts
 use crate::faults::FileFault;
 use crate::header::{HEADER, Handed, Header, MOST_CELLS, MOST_RECORDS, VERSION};
 use crate::letters::BoardKind;
-use crate::numbers::{u16_at, u32_at};
 use crate::records::{RECORD, SavedRecord, saved_at, start_of};
+use byteorder::{ByteOrder, LittleEndian};
 use kind::Kind;
 
 // A file whose header was accepted: it is as long as its count says. A change of its kind has `width` bytes.
@@ -36,11 +36,11 @@ impl<'a> SavedFile<'a> {
         if bytes[1] != VERSION {
             return Err(FileFault::Version);
         }
-        let cells = u16_at(bytes, 2);
+        let cells = LittleEndian::read_u16(&bytes[2..]);
         if cells == 0 || cells > MOST_CELLS || handed.is_some_and(|h| h.cells != cells as usize) {
             return Err(FileFault::Cells);
         }
-        let count = u32_at(bytes, 4);
+        let count = LittleEndian::read_u32(&bytes[4..]);
         if count > MOST_RECORDS || handed.is_some_and(|h| h.room < count as usize) {
             return Err(FileFault::Count);
         }
