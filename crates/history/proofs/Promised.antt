@@ -1,5 +1,5 @@
 -- Every call keeps the memory that its history leaves, and answers what the history predicts. Assumes nothing.
-use Rattle.std.proofs.Common.{◌≡◌, ℕ, ◌+◌, ◌<◌, Bool, cond, ◌&&◌, ◌||◌, ltb, leb, List, [], ◌∷◌, map, length, Result, sym, refl, ap, ◌∙◌, subst, inl, inr}
+use Rattle.std.proofs.Common.{◌≡◌, ℕ, ◌+◌, ◌<◌, Bool, cond, ◌&&◌, ◌||◌, ltb, leb, List, [], ◌∷◌, map, length, Ok, Result, sym, refl, ap, ◌∙◌, subst, inl, inr}
 use Rattle.std.proofs.lemmas.Bool.{cases_lt, leb-false, cond-true, cond-false, and_from, and_left, and_right, le-leb, lt-leb, lt-ltb, le-ltb}
 use Rattle.std.specs.List.{range_with_len}
 use Rattle.kind.specs.Answers.{told, kept}
@@ -25,7 +25,7 @@ use Rattle.history.proofs.Reverted.{revert_told, revert_keeps}
 use Rattle.history.proofs.Results.{reply_if}
 use Rattle.history.proofs.Rolled.{roll_told, rolls_there}
 use Rattle.history.proofs.Spanned.{found, looks, walked, timed, measures, walks, got_is, onward_diff, spans_stand, spans_compose}
-use Rattle.history.proofs.Written.{formats, formats_only, write_no_cell, write_full, write_taken, write_canonical}
+use Rattle.history.proofs.Written.{formats, formats_only, after, tried, tested, tries, write_no_cell, write_full, write_taken, write_canonical}
 
 module _ {PS PC : Type 0} (K : Model PS PC) (L : Laws K) where
   module _ {h : History K.State} {v : Memory PS PC} (C : Canonical K h v) where
@@ -60,20 +60,14 @@ module _ {PS PC : Type 0} (K : Model PS PC) (L : Laws K) where
 
     write_told : (c : ℕ) (s : PS) → replied K v (write c s) ≡ predicted K h (write c s)
     write_told c s =
-        let out? : Bool = leb h.cells c in
+        let shown : Result (Memory PS PC) Refusal → R = λ r. reply counted (told (v.count + 1) r) in
         let full? : Bool = leb h.capacity (count h) in
-        let rest : R = cond full? (refused Full) (counted (count h + 1)) in
-        elim (cases_lt c h.cells) [
-          | inr out ↦ ap (λ r. reply counted (told (v.count + 1) r)) (write_no_cell K L C c s out) ∙ sym (cond-true out? (refused Cell) rest (le-leb h.cells c out))
-          | inl in' ↦ elim (cases_lt (count h) h.capacity) [
-            | inr full ↦
-                ap (λ r. reply counted (told (v.count + 1) r)) (write_full K L C c s in' full)
-                ∙ sym (cond-false out? (refused Cell) rest (lt-leb h.cells c in') ∙ cond-true full? (refused Full) (counted (count h + 1)) (le-leb h.capacity (count h) full))
-            | inl room ↦
-                ap (λ r. reply counted (told (v.count + 1) r)) (write_taken K L C c s in' room) ∙ ap (λ n. counted (n + 1)) C.counts
-                ∙ sym (cond-false out? (refused Cell) rest (lt-leb h.cells c in') ∙ cond-false full? (refused Full) (counted (count h + 1)) (lt-leb h.capacity (count h) room))
-          ]
-        ]
+        ap shown (tested K L C c s)
+        ∙ reply_if shown (leb h.cells c) Cell (tried K L C c s) (cond full? (refused Full) (counted (count h + 1))) refl
+        (λ t.
+        let in' : c < h.cells = leb-false h.cells c t in
+        ap shown (tries K L C c s in')
+        ∙ reply_if shown full? Full (Ok (after K L C c s in')) (counted (count h + 1)) refl (λ _. ap (λ n. counted (n + 1)) C.counts))
 
     -- read
     read_told : (c : ℕ) → replied K v (read c) ≡ predicted K h (read c)
