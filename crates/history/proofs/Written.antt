@@ -1,7 +1,7 @@
 -- What format and write make of the memory that a history leaves. Assumes nothing.
-use Rattle.std.proofs.Common.{◌≡◌, ℕ, ◌+◌, ◌<◌, ◌≤◌, cond, eqb, leb, List, [], ◌∷◌, ◌++◌, length, get_or, take, set, Ok, Err, Result, sym, ap, ◌∙◌, arith}
+use Rattle.std.proofs.Common.{◌≡◌, ℕ, ◌+◌, ◌<◌, cond, eqb, leb, List, [], ◌∷◌, ◌++◌, length, get_or, take, set, Ok, Err, Result, sym, ap, ◌∙◌, arith}
 use Rattle.std.proofs.lemmas.List.{length-set, length_push, take_more_set}
-use Rattle.std.proofs.lemmas.Bool.{cond-true, cond-false, le-leb, lt-leb}
+use Rattle.std.proofs.lemmas.Bool.{cond-false, lt-leb}
 use Rattle.kind.specs.Answers.{and_then, refuse_if, refused_as}
 use Rattle.kind.specs.Model.{Model, Laws}
 use Rattle.journal.specs.declared.record.Record.{Record}
@@ -56,9 +56,6 @@ module _ {PS PC : Type 0} (K : Model PS PC) where
     unfolding written
     tested = ap (λ r. and_then r (λ _. refuse_if (leb (length v.cells) c) Cell tried)) (sound_is K C) ∙ ap (λ n. refuse_if (leb n c) Cell tried) C.all_cells
 
-    pub write_no_cell : h.cells ≤ c → written K v c s ≡ Err Cell
-    write_no_cell out = tested ∙ cond-true (leb h.cells c) (Err Cell) tried (le-leb h.cells c out)
-
     module _ (in' : c < h.cells) where
       pub size : length ws ≡ count h
       size = writes_length K es
@@ -85,17 +82,11 @@ module _ {PS PC : Type 0} (K : Model PS PC) where
           ap (λ x. and_then x moved) logs ∙ through (λ x. and_then x moved) (leb (length v.records) v.count) (Err Full) (Ok (set v.records v.count r))
           ∙ ap (λ n. refuse_if (leb n v.count) Full (Ok after)) C.all_records ∙ ap (λ n. refuse_if (leb h.capacity n) Full (Ok after)) C.counts
 
-      writes_on_cell : written K v c s ≡ tried
-      writes_on_cell = tested ∙ cond-false (leb h.cells c) (Err Cell) tried (lt-leb h.cells c in')
-
-      pub write_full : h.capacity ≤ count h → written K v c s ≡ Err Full
-      write_full full = writes_on_cell ∙ tries ∙ cond-true (leb h.capacity (count h)) (Err Full) (Ok after) (le-leb h.capacity (count h) full)
-
       pub tried_taken : count h < h.capacity → tried ≡ Ok after
       tried_taken some = tries ∙ cond-false (leb h.capacity (count h)) (Err Full) (Ok after) (lt-leb h.capacity (count h) some)
 
       pub write_taken : count h < h.capacity → written K v c s ≡ Ok after
-      write_taken some = writes_on_cell ∙ tried_taken some
+      write_taken some = tested ∙ cond-false (leb h.cells c) (Err Cell) tried (lt-leb h.cells c in') ∙ tried_taken some
 
       -- the entry that it adds, and its write
       abbrev e : Entry K.State
