@@ -91,7 +91,7 @@ module _ {PS PC : Type 0} (K : Model PS PC) (L : Laws K) where
             let low = low_after c (w.place - 1) w.place (way end (numbered K rs w.place)) m q in
             let same' : m ≡ u.place = cc in
             omega arith
-        go (Err f) q e = let z : ◌≡◌ {A = ℕ} 0 1 = cc in omega arith
+        go (Err f) q e = absurd cc
 
     walk_alike : (fuel c end : ℕ) (w w' : Walked PC) → AlikeWalked w w' → w.place ≤ n → Related AlikeWalked (walk K fuel rs c end w) (walk K fuel ss c end w')
     walk_alike zero c end w w' q low = q
@@ -120,7 +120,7 @@ module _ {PS PC : Type 0} (K : Model PS PC) (L : Laws K) where
         go : (r : Result (Walked PC) LadderFault) → step K rs c end w ≡ r → and_then r (walk K fuel rs c end) ≡ Ok u →
             ((x : Walked PC) → walk K fuel rs c end x ≡ Ok u → u.place ≤ x.place) → u.place ≤ w.place
         go (Ok x) q e ih = omega (arith, step_low c end w x q, ih x e)
-        go (Err f) q e ih = let z : ◌≡◌ {A = ℕ} 0 1 = cc in omega arith
+        go (Err f) q e ih = absurd cc
 
     ascent_alike : (h c low high : ℕ) → Related AlikeStretch (ascent K rs n h c low high) (ascent K ss n h c low high)
     ascent_alike h c low high =

@@ -1,15 +1,16 @@
 -- The memory that a history leaves, up to what the cells are taken for and to what lies beyond the count. Assumes nothing.
-use Rattle.std.proofs.Common.{◌≡◌, ℕ, ◌<◌, ◌≤◌, not, ◌||◌, eqb, ltb, List, [], ◌∷◌, ◌++◌, length, get_or, replicate, Ok, Err, sym, refl, ap, ◌∙◌, subst, arith}
+use Rattle.std.proofs.Common.{◌≡◌, Result, cond, false, true, Bool, ℕ, ◌<◌, ◌≤◌, not, ◌||◌, eqb, ltb, List, [], ◌∷◌, ◌++◌, length, get_or, replicate, Ok, Err, sym, refl, ap, ◌∙◌, subst, arith}
 use Rattle.std.proofs.lemmas.List.{get_or-replicate, length-replicate, take_all}
 use Rattle.std.proofs.lemmas.Bool.Decides.{nat_tests}
 use Rattle.std.proofs.lemmas.Bool.{cond-false, or_parts, eqb-true, eqb-false, le-ltb, ltb-false, not-false}
-use Rattle.kind.specs.Answers.{and_then, refuse_if}
+use Rattle.kind.specs.Answers.{and_then, refuse_if, kept}
 use Rattle.kind.specs.Model.{Model, Laws}
 use Rattle.logs.specs.Theorems.{Logs}
 use Rattle.logs.specs.Writes.{head_of}
 use Rattle.volume.specs.Calls.{origin, emptied}
 use Rattle.volume.specs.Memory.{Memory}
 use Rattle.volume.specs.Sizes.{sized, sound}
+use Rattle.volume.specs.declared.refusal.Refusal.{Refusal}
 use Rattle.volume.specs.declared.refusal.Refusal.TheVariants.{Cells, Heads, Capacity, Count}
 use Rattle.history.specs.History.{History, Entry, count, latest, stood}
 use Rattle.history.specs.Promises.{fresh}
@@ -75,6 +76,12 @@ module _ {PS PC : Type 0} (K : Model PS PC) where
 
   pub sound_is : {h : History K.State} {v : Memory PS PC} → Canonical h v → sound (length v.cells) (length v.heads) (length v.records) v.count ≡ Ok tt
   sound_is {h} {v} C = sound_ok C.sizes (omega (arith, C.counts, C.fits, C.all_records))
+
+  -- a call that a test may refuse, where the history then stays as it is
+  pub taken_if : {h : History K.State} {v : Memory PS PC} (g : History K.State) (t b : Bool) (e : Refusal) (r : Result (Memory PS PC) Refusal) →
+      Canonical h v → (t ≡ true → b ≡ false) → (t ≡ false → Canonical (cond b g h) (kept v r)) → Canonical (cond b g h) (kept v (refuse_if t e r))
+  taken_if {h} {v} g true b e r C stays more = subst (λ x. Canonical (cond x g h) v) (sym (stays refl)) C
+  taken_if g false b e r C stays more = more refl
 
   pub writes_few : {h : History K.State} {v : Memory PS PC} → Canonical h v → length (writes K h.entries) ≤ 65535
   writes_few {h} {v} C = omega (arith, writes_length K h.entries, C.fits, C.all_records, C.sizes.few_records)

@@ -1,7 +1,8 @@
 -- A file that is read is the file of what was read from it. Assumes nothing.
 use Rattle.std.proofs.Common.{◌≡◌, ℕ, zero, suc, ◌+◌, ◌-◌, ◌*◌, ◌<◌, ◌≤◌, true, not, ◌&&◌, eqb, ltb, leb, List, [], ◌∷◌, ◌++◌, length, take, drop, Ok, Option, sym, refl, ap, ◌∙◌, suc-mul, arith, length-drop, take-append-drop, length-take}
 use Rattle.std.proofs.lemmas.List.{append_assoc, append-nil, drop-drop, take_all}
-use Rattle.std.proofs.lemmas.Bool.{and_parts, eqb-true, ltb-true, ltb-false, not-false}
+use Rattle.std.proofs.lemmas.Bool.Decides.{nat_tests}
+use Rattle.std.proofs.lemmas.Bool.{and_parts, eqb-true, ltb-false, not-false}
 use Rattle.kind.specs.Bytes.{bytes?, le16, le32}
 use Rattle.kind.specs.Model.{Model, Laws}
 use Rattle.file.specs.declared.faults.FileFault.TheVariants.{Cell, Next, Change}
@@ -18,9 +19,6 @@ use Rattle.history.specs.History.{Entry, latest, last_number}
 use Rattle.history.proofs.Filed.{lines_append, lines_length}
 use Rattle.history.proofs.Loaded.{Passed, entries_length}
 use Rattle.history.proofs.Results.{then_ok, test_ok, as_ok}
-
-byte : (x : ℕ) (xs : List ℕ) → bytes? (x ∷ xs) ≡ true → (x < 256) × (bytes? xs ≡ true)
-byte x xs t = let p = and_parts (ltb x 256) (bytes? xs) t in (ltb-true x 256 p.0, p.1)
 
 pair : {a b a' b' : ℕ} (xs : List ℕ) → a ≡ a' → b ≡ b' → ◌≡◌ {A = List ℕ} (a ∷ b ∷ xs) (a' ∷ b' ∷ xs)
 pair xs p q = λ i. p i ∷ q i ∷ xs
@@ -43,14 +41,8 @@ six_back (a ∷ b ∷ c ∷ []) l t = absurd (omega arith)
 six_back (a ∷ b ∷ c ∷ d ∷ []) l t = absurd (omega arith)
 six_back (a ∷ b ∷ c ∷ d ∷ e ∷ []) l t = absurd (omega arith)
 six_back (a ∷ b ∷ c ∷ d ∷ e ∷ f ∷ xs) l t =
-    let pa = byte a (b ∷ c ∷ d ∷ e ∷ f ∷ xs) t in
-    let pb = byte b (c ∷ d ∷ e ∷ f ∷ xs) pa.1 in
-    let pc = byte c (d ∷ e ∷ f ∷ xs) pb.1 in
-    let pd = byte d (e ∷ f ∷ xs) pc.1 in
-    let pe = byte e (f ∷ xs) pd.1 in
-    let pf = byte f xs pe.1 in
-    ap (λ ys. ys ++ (le16_form (le16 (e ∷ f ∷ xs)) ++ xs)) (four_back a b c d (e ∷ f ∷ xs) pa.0 pb.0 pc.0 pd.0)
-    ∙ ap (λ ys. (a ∷ b ∷ c ∷ d ∷ []) ++ (ys ++ xs)) (two_back e f xs pe.0 pf.0)
+    ap (λ ys. ys ++ (le16_form (le16 (e ∷ f ∷ xs)) ++ xs)) (four_back a b c d (e ∷ f ∷ xs) (grind (arith, nat_tests)) (grind (arith, nat_tests)) (grind (arith, nat_tests)) (grind (arith, nat_tests)))
+    ∙ ap (λ ys. (a ∷ b ∷ c ∷ d ∷ []) ++ (ys ++ xs)) (two_back e f xs (grind (arith, nat_tests)) (grind (arith, nat_tests)))
 
 eight_back : (f : List ℕ) → 8 ≤ length f → bytes? f ≡ true → version_at f ≡ 1 → header_form (letter_at f) (cells_at f) (count_at f) ≡ take 8 f
 eight_back [] l t v = absurd (omega arith)
@@ -62,17 +54,9 @@ eight_back (a ∷ b ∷ c ∷ d ∷ e ∷ []) l t v = absurd (omega arith)
 eight_back (a ∷ b ∷ c ∷ d ∷ e ∷ f ∷ []) l t v = absurd (omega arith)
 eight_back (a ∷ b ∷ c ∷ d ∷ e ∷ f ∷ g ∷ []) l t v = absurd (omega arith)
 eight_back (a ∷ b ∷ c ∷ d ∷ e ∷ f ∷ g ∷ h ∷ xs) l t v =
-    let pa = byte a (b ∷ c ∷ d ∷ e ∷ f ∷ g ∷ h ∷ xs) t in
-    let pb = byte b (c ∷ d ∷ e ∷ f ∷ g ∷ h ∷ xs) pa.1 in
-    let pc = byte c (d ∷ e ∷ f ∷ g ∷ h ∷ xs) pb.1 in
-    let pd = byte d (e ∷ f ∷ g ∷ h ∷ xs) pc.1 in
-    let pe = byte e (f ∷ g ∷ h ∷ xs) pd.1 in
-    let pf = byte f (g ∷ h ∷ xs) pe.1 in
-    let pg = byte g (h ∷ xs) pf.1 in
-    let ph = byte h xs pg.1 in
     ap (λ y. a ∷ y ∷ (le16_form (le16 (c ∷ d ∷ e ∷ f ∷ g ∷ h ∷ xs)) ++ le32_form (le32 (e ∷ f ∷ g ∷ h ∷ xs)))) (sym v)
-    ∙ ap (λ (ys : List ℕ). a ∷ b ∷ (ys ++ le32_form (le32 (e ∷ f ∷ g ∷ h ∷ xs)))) (two_back c d (e ∷ f ∷ g ∷ h ∷ xs) pc.0 pd.0)
-    ∙ ap (λ (ys : List ℕ). a ∷ b ∷ c ∷ d ∷ ys) (four_back e f g h xs pe.0 pf.0 pg.0 ph.0)
+    ∙ ap (λ (ys : List ℕ). a ∷ b ∷ (ys ++ le32_form (le32 (e ∷ f ∷ g ∷ h ∷ xs)))) (two_back c d (e ∷ f ∷ g ∷ h ∷ xs) (grind (arith, nat_tests)) (grind (arith, nat_tests)))
+    ∙ ap (λ (ys : List ℕ). a ∷ b ∷ c ∷ d ∷ ys) (four_back e f g h xs (grind (arith, nat_tests)) (grind (arith, nat_tests)) (grind (arith, nat_tests)) (grind (arith, nat_tests)))
 
 -- parts of bytes are bytes
 bytes_drop : (n : ℕ) (xs : List ℕ) → bytes? xs ≡ true → bytes? (drop n xs) ≡ true

@@ -66,14 +66,14 @@ module _ {PS PC : Type 0} (K : Model PS PC) (L : Laws K) where
   told_ok h (Ok es) (Ok u) w D e = let s : u ≡ w = cc in (es, refl, subst (Canonical K (with_entries K L h es)) s D)
   told_ok h (Ok es) (Err y) w D e = absurd D
   told_ok h (Err x) (Ok u) w D e = absurd D
-  told_ok h (Err x) (Err y) w D e = let z : ◌≡◌ {A = ℕ} 0 1 = cc in absurd (omega arith)
+  told_ok h (Err x) (Err y) w D e = absurd cc
 
   told_made : (h : History K.State) (r : Result (List (Entry K.State)) FileFault) (t : Result (Memory PS PC) Refusal) (es : List (Entry K.State)) → Tells K L h r t → r ≡ Ok es →
       (w : Memory PS PC) × (t ≡ Ok w) × Canonical K (with_entries K L h es) w
   told_made h (Ok us) (Ok u) es D e = let s : us ≡ es = cc in (u, refl, subst (λ xs. Canonical K (with_entries K L h xs) u) s D)
   told_made h (Ok us) (Err y) es D e = absurd D
   told_made h (Err x) (Ok u) es D e = absurd D
-  told_made h (Err x) (Err y) es D e = let z : ◌≡◌ {A = ℕ} 0 1 = cc in absurd (omega arith)
+  told_made h (Err x) (Err y) es D e = absurd cc
 
   -- the save of a volume whose file is f
   saves_it : {h : History K.State} {w : Memory PS PC} (f : List ℕ) → Canonical K h w → file_of_history K h ≡ f → (area : ℕ) → length f ≤ area → saved K w area ≡ Ok f

@@ -1,6 +1,7 @@
 -- The record of the n-th entry, in the memory that a history leaves. Assumes nothing.
-use Rattle.std.proofs.Common.{◌≡◌, ℕ, zero, suc, ◌+◌, ◌<◌, ◌≤◌, List, [], ◌∷◌, ◌++◌, length, take, drop, Ok, sym, refl, ap, ◌∙◌, subst, arith}
-use Rattle.std.proofs.lemmas.List.{length-take}
+use Rattle.std.proofs.Common.{◌≡◌, ℕ, suc, ◌+◌, ◌<◌, ◌≤◌, List, [], ◌∷◌, ◌++◌, length, get_or, take, drop, Ok, sym, ap, ◌∙◌, subst, arith}
+use Rattle.std.proofs.Math.Seq.{split_at}
+use Rattle.std.proofs.lemmas.List.{length-take, take_more}
 use Rattle.kind.specs.Model.{Model, Laws}
 use Rattle.journal.specs.Appends.{planned}
 use Rattle.journal.specs.Links.{numbered}
@@ -12,24 +13,9 @@ use Rattle.history.specs.History.{History, Entry, count, latest, stood}
 use Rattle.history.proofs.Canonical.{Owned, owned_at, Canonical}
 use Rattle.history.proofs.Entered.{writes, writes_on, write_of, writes_append, writes_length}
 
--- a list around its n-th element
-pub record Around {X : Type 0} (xs : List X) (n : ℕ) : Type 0 where
-  pub it : X
-  pub whole : xs ≡ take n xs ++ it ∷ drop (suc n) xs
-  pub next : take (n + 1) xs ≡ take n xs ++ it ∷ []
-
-around : {X : Type 0} (xs : List X) (n : ℕ) → n < length xs → (x : X) × (xs ≡ take n xs ++ x ∷ drop (suc n) xs) × (take (suc n) xs ≡ take n xs ++ x ∷ [])
-around [] n l = absurd (omega arith)
-around (x ∷ xs) zero l = (x, refl, refl)
-around {X} (x ∷ xs) (suc n) l =
-    let r = around xs n (omega arith) in
-    (r.0, ap (λ (ys : List X). x ∷ ys) r.1, ap (λ (ys : List X). x ∷ ys) r.2)
-
-pub split_at : {X : Type 0} (xs : List X) (n : ℕ) → n < length xs → Around xs n
-split_at xs n l =
-    let r = around xs n l in
-    let e : n + 1 ≡ suc n = omega arith in
-    record { it = r.0; whole = r.1; next = ap (λ m. take m xs) e ∙ r.2 }
+-- what is read where there is no entry
+abbrev pub no_entry : {PS PC : Type 0} (K : Model PS PC) → Entry K.State
+no_entry K = record { cell = 0; state = K.origin }
 
 module _ {PS PC : Type 0} (K : Model PS PC) (L : Laws K) {h : History K.State} {v : Memory PS PC} (C : Canonical K h v) where
   -- entry n + 1, and its record
@@ -46,12 +32,12 @@ module _ {PS PC : Type 0} (K : Model PS PC) (L : Laws K) {h : History K.State} {
 
   pub nth : (n : ℕ) → n < count h → Nth n
   nth n l =
-      let A = split_at h.entries n l in
       let es : List (Entry K.State) = h.entries in
       let us : List (Entry K.State) = take n es in
-      let e : Entry K.State = A.it in
+      let e : Entry K.State = get_or es n (no_entry K) in
       let vs : List (Entry K.State) = drop (suc n) es in
-      let whole : writes K es ≡ writes K us ++ write_of K us e ∷ writes_on K (us ++ e ∷ []) vs = ap (writes K) A.whole ∙ writes_append K us (e ∷ vs) in
+      let cut : es ≡ us ++ e ∷ vs = split_at es n (no_entry K) l in
+      let whole : writes K es ≡ writes K us ++ write_of K us e ∷ writes_on K (us ++ e ∷ []) vs = ap (writes K) cut ∙ writes_append K us (e ∷ vs) in
       let size : length (writes K us) ≡ n = writes_length K us ∙ length-take n es ∙ omega arith in
       let all : length (writes K us ++ write_of K us e ∷ writes_on K (us ++ e ∷ []) vs) ≡ count h = ap length (sym whole) ∙ writes_length K es in
       let few : length (writes K us ++ write_of K us e ∷ writes_on K (us ++ e ∷ []) vs) ≤ 65535 = omega (arith, all, C.fits, C.all_records, C.sizes.few_records) in
@@ -60,8 +46,8 @@ module _ {PS PC : Type 0} (K : Model PS PC) (L : Laws K) {h : History K.State} {
       let change : (numbered K v.records (n + 1)).change ≡ (write_of K us e).change = ap (λ k. (numbered K v.records (k + 1)).change) (sym size) ∙ R.2 in
       record {
         entry = e;
-        next = A.next;
-        owned = owned_at h.cells us e vs (subst (Owned h.cells) A.whole C.owned);
+        next = take_more es n (no_entry K) l;
+        owned = owned_at h.cells us e vs (subst (Owned h.cells) cut C.owned);
         cell = cell;
         change = ap K.change change ∙ L.change_plain (K.diff (latest K.origin e.cell us) e.state);
         next_is = ap (λ k. (numbered K v.records (k + 1)).next) (sym size) ∙ R.3;

@@ -1,6 +1,7 @@
 -- Every call keeps the memory that its history leaves, and answers what the history predicts. Assumes nothing.
-use Rattle.std.proofs.Common.{◌≡◌, ℕ, ◌+◌, ◌<◌, Bool, cond, ◌&&◌, ◌||◌, ltb, leb, List, [], ◌∷◌, map, length, Result, sym, refl, ap, ◌∙◌, subst, inl, inr}
-use Rattle.std.proofs.lemmas.Bool.{cases_lt, leb-false, cond-true, cond-false, and_from, and_left, and_right, le-leb, lt-leb, lt-ltb, le-ltb}
+use Rattle.std.proofs.Common.{◌≡◌, ℕ, ◌+◌, ◌<◌, Bool, true, cond, ◌&&◌, ◌||◌, ltb, leb, List, [], ◌∷◌, map, length, Ok, Result, sym, refl, ap, ◌∙◌, subst, arith}
+use Rattle.std.proofs.lemmas.Bool.Decides.{nat_tests}
+use Rattle.std.proofs.lemmas.Bool.{leb-false}
 use Rattle.std.specs.List.{range_with_len}
 use Rattle.kind.specs.Answers.{told, kept}
 use Rattle.kind.specs.Model.{Model, Laws}
@@ -13,7 +14,7 @@ use Rattle.volume.specs.declared.refusal.Refusal.TheVariants.{Cell, Moment, Full
 use Rattle.history.specs.Calls.{Call, format, write, read, span, roll, replay, revert, check, save, load, Reply, counted, state, change, refused, reply, run, run_all, fed, fed_all, replied, predicted}
 use Rattle.history.specs.History.{History, count, appended, last_entry, stood, image}
 use Rattle.history.specs.Promises.{fresh, KeptPromises, Promises, PromisesAfterLoad}
-use Rattle.history.proofs.Canonical.{Canonical, present, blank_canonical, empty_canonical}
+use Rattle.history.proofs.Canonical.{Canonical, taken_if, present, blank_canonical, empty_canonical}
 use Rattle.history.proofs.Checked.{check_told}
 use Rattle.history.proofs.Entered.{writes_head}
 use Rattle.history.proofs.Filed.{save_told, save_only}
@@ -25,7 +26,7 @@ use Rattle.history.proofs.Reverted.{revert_told, revert_keeps}
 use Rattle.history.proofs.Results.{reply_if}
 use Rattle.history.proofs.Rolled.{roll_told, rolls_there}
 use Rattle.history.proofs.Spanned.{found, looks, walked, timed, measures, walks, got_is, onward_diff, spans_stand, spans_compose}
-use Rattle.history.proofs.Written.{formats, formats_only, write_no_cell, write_full, write_taken, write_canonical}
+use Rattle.history.proofs.Written.{formats, formats_only, after, tried, tested, tries, write_canonical}
 
 module _ {PS PC : Type 0} (K : Model PS PC) (L : Laws K) where
   module _ {h : History K.State} {v : Memory PS PC} (C : Canonical K h v) where
@@ -40,40 +41,31 @@ module _ {PS PC : Type 0} (K : Model PS PC) (L : Laws K) where
     write_keeps : (c : ℕ) (s : PS) → Canonical K (fed K h (write c s)) (run K v (write c s))
     write_keeps c s =
         let some : Bool = ltb c h.cells && ltb (count h) h.capacity in
-        elim (cases_lt c h.cells) [
-          | inr out ↦
-              subst (λ g. Canonical K g (run K v (write c s))) (sym (cond-false some (appended h c (K.state s)) h (and_left (ltb c h.cells) (ltb (count h) h.capacity) (le-ltb c h.cells out))))
-              (subst (λ r. Canonical K h (kept v r)) (sym (write_no_cell K L C c s out)) C)
-          | inl in' ↦ elim (cases_lt (count h) h.capacity) [
-            | inr full ↦
-                subst (λ g. Canonical K g (run K v (write c s))) (sym (cond-false some (appended h c (K.state s)) h (and_right (ltb c h.cells) (ltb (count h) h.capacity) (le-ltb (count h) h.capacity full))))
-                (subst (λ r. Canonical K h (kept v r)) (sym (write_full K L C c s in' full)) C)
-            | inl room ↦
-                subst (λ g. Canonical K g (run K v (write c s)))
-                (sym (cond-true some (appended h c (K.state s)) h (and_from (ltb c h.cells) (ltb (count h) h.capacity) (lt-ltb c h.cells in') (lt-ltb (count h) h.capacity room))))
-                (subst (λ r. Canonical K (appended h c (K.state s)) (kept v r)) (sym (write_taken K L C c s in' room)) (write_canonical K L C c s in' room))
-          ]
-        ]
+        let g : History K.State = appended h c (K.state s) in
+        subst (λ r. Canonical K (cond some g h) (kept v r)) (sym (tested K L C c s))
+        (taken_if K g (leb h.cells c) some Cell (tried K L C c s) C (λ t. grind (arith, nat_tests))
+        (λ t.
+        let in' : c < h.cells = leb-false h.cells c t in
+        subst (λ r. Canonical K (cond some g h) (kept v r)) (sym (tries K L C c s in'))
+        (taken_if K g (leb h.capacity (count h)) some Full (Ok (after K L C c s in')) C (λ t'. grind (arith, nat_tests))
+        (λ t'.
+        let room : count h < h.capacity = leb-false h.capacity (count h) t' in
+        let yes : some ≡ true = grind (arith, nat_tests) in
+        subst (λ b. Canonical K (cond b g h) (after K L C c s in')) (sym yes) (write_canonical K L C c s in' room)))))
 
     abbrev R : Type 0
     R = Reply K.State K.Change
 
     write_told : (c : ℕ) (s : PS) → replied K v (write c s) ≡ predicted K h (write c s)
     write_told c s =
-        let out? : Bool = leb h.cells c in
+        let shown : Result (Memory PS PC) Refusal → R = λ r. reply counted (told (v.count + 1) r) in
         let full? : Bool = leb h.capacity (count h) in
-        let rest : R = cond full? (refused Full) (counted (count h + 1)) in
-        elim (cases_lt c h.cells) [
-          | inr out ↦ ap (λ r. reply counted (told (v.count + 1) r)) (write_no_cell K L C c s out) ∙ sym (cond-true out? (refused Cell) rest (le-leb h.cells c out))
-          | inl in' ↦ elim (cases_lt (count h) h.capacity) [
-            | inr full ↦
-                ap (λ r. reply counted (told (v.count + 1) r)) (write_full K L C c s in' full)
-                ∙ sym (cond-false out? (refused Cell) rest (lt-leb h.cells c in') ∙ cond-true full? (refused Full) (counted (count h + 1)) (le-leb h.capacity (count h) full))
-            | inl room ↦
-                ap (λ r. reply counted (told (v.count + 1) r)) (write_taken K L C c s in' room) ∙ ap (λ n. counted (n + 1)) C.counts
-                ∙ sym (cond-false out? (refused Cell) rest (lt-leb h.cells c in') ∙ cond-false full? (refused Full) (counted (count h + 1)) (lt-leb h.capacity (count h) room))
-          ]
-        ]
+        ap shown (tested K L C c s)
+        ∙ reply_if shown (leb h.cells c) Cell (tried K L C c s) (cond full? (refused Full) (counted (count h + 1))) refl
+        (λ t.
+        let in' : c < h.cells = leb-false h.cells c t in
+        ap shown (tries K L C c s in')
+        ∙ reply_if shown full? Full (Ok (after K L C c s in')) (counted (count h + 1)) refl (λ _. ap (λ n. counted (n + 1)) C.counts))
 
     -- read
     read_told : (c : ℕ) → replied K v (read c) ≡ predicted K h (read c)

@@ -50,11 +50,11 @@ module _ {PS PC : Type 0} (K : Model PS PC) (L : Laws K) where
       let c = and_parts _ _ b.1 in
       let d = and_parts _ _ c.1 in
       (s, refl, eqb-true r.next s.next a.0, eqb-true r.skip s.skip b.0, eqb-true r.length s.length c.0, eqb-true r.foot s.foot d.0, (L.change_exact (K.change r.fold) (K.change s.fold)).0 d.1)
-  as_parts r (Err q) e = let z : ◌≡◌ {A = ℕ} 0 1 = cc in absurd (omega arith)
+  as_parts r (Err q) e = absurd cc
 
   changed_parts : (s : PS) (p : Result (Stretch PC) LadderFault) → as_changed K s p ≡ true → (t : Stretch PC) × (p ≡ Ok t) × (K.state s ≡ K.state (acted K t.change (origin K)))
   changed_parts s (Ok t) e = (t, refl, (L.state_exact (K.state s) (K.state (acted K t.change (origin K)))).0 e)
-  changed_parts s (Err q) e = let z : ◌≡◌ {A = ℕ} 0 1 = cc in absurd (omega arith)
+  changed_parts s (Err q) e = absurd cc
 
   module _ (v : Memory PS PC) (z : Sizes (length v.cells) (length v.heads) (length v.records)) (fits : v.count ≤ length v.records) (fine : judged K v ≡ Ok tt) where
     abbrev n : ℕ

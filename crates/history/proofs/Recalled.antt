@@ -1,6 +1,7 @@
 -- What the file of a history says, record by record: its entries, and each cell at each moment. Assumes nothing.
-use Rattle.std.proofs.Common.{◌≡◌, ℕ, zero, suc, ◌+◌, ◌*◌, ◌<◌, ◌≤◌, min, Bool, false, cond, not, eqb, ltb, leb, List, [], ◌∷◌, ◌++◌, length, take, drop, Some, None, Ok, Err, Option, Result, sym, refl, ap, ◌∙◌, subst, inl, inr, arith}
-use Rattle.std.proofs.lemmas.List.{length-append, length-take}
+use Rattle.std.proofs.Common.{◌≡◌, ℕ, zero, suc, ◌+◌, ◌*◌, ◌<◌, ◌≤◌, min, Bool, false, cond, not, eqb, ltb, leb, List, [], ◌∷◌, ◌++◌, length, get_or, take, drop, Some, None, Ok, Err, Option, Result, sym, refl, ap, ◌∙◌, subst, inl, inr, arith}
+use Rattle.std.proofs.Math.Seq.{split_at}
+use Rattle.std.proofs.lemmas.List.{length-append, length-take, take_more}
 use Rattle.std.proofs.lemmas.Bool.Decides.{nat_tests}
 use Rattle.std.proofs.lemmas.Bool.{cases_Bool, cond-true, cond-false, eqb-true, eq-eqb, lt-leb, le-ltb, not_from_true}
 use Rattle.kind.specs.Answers.{and_then, refuse_if, refused_as}
@@ -25,7 +26,7 @@ use Rattle.history.proofs.Canonical.{Owned, owned_at, Canonical}
 use Rattle.history.proofs.Entered.{latest_append, last_append}
 use Rattle.history.proofs.Filed.{lines_append, lines_length}
 use Rattle.history.proofs.Loaded.{passed}
-use Rattle.history.proofs.Nth.{split_at}
+use Rattle.history.proofs.Nth.{no_entry}
 
 -- the last entry's number is no more than the entries
 last_low : {S : Type 0} (before found c : ℕ) (xs : List (Entry S)) → found ≤ before → last_number before found c xs ≤ before + length xs
@@ -95,21 +96,21 @@ module _ {PS PC : Type 0} (K : Model PS PC) (L : Laws K) where
 
     pub nth_line : (n : ℕ) → n < count h → NthLine n
     nth_line n l =
-        let A = split_at es n l in
         let us : List (Entry K.State) = take n es in
-        let e : Entry K.State = A.it in
+        let e : Entry K.State = get_or es n (no_entry K) in
         let vs : List (Entry K.State) = drop (suc n) es in
-        let whole : lines ≡ lines_on K [] us ++ line K us e ∷ lines_on K (us ++ e ∷ []) vs = ap (lines_on K []) A.whole ∙ lines_append K [] us (e ∷ vs) in
+        let cut : es ≡ us ++ e ∷ vs = split_at es n (no_entry K) l in
+        let whole : lines ≡ lines_on K [] us ++ line K us e ∷ lines_on K (us ++ e ∷ []) vs = ap (lines_on K []) cut ∙ lines_append K [] us (e ∷ vs) in
         let short : length us ≡ n = length-take n es ∙ omega arith in
         let size : length (lines_on K [] us) + 1 ≡ suc n = ap (λ k. k + 1) (lines_length K [] us ∙ short) ∙ omega arith in
-        let low : e.cell < h.cells = owned_at h.cells us e vs (subst (Owned h.cells) A.whole W.owned) in
+        let low : e.cell < h.cells = owned_at h.cells us e vs (subst (Owned h.cells) cut W.owned) in
         let bytes : record_bytes K.width F (suc n) ≡ record_form K (line K us e) =
         ap (λ ls. record_bytes K.width (file_form K h.cells ls) (suc n)) whole
         ∙ ap (record_bytes K.width (file_form K h.cells (lines_on K [] us ++ line K us e ∷ lines_on K (us ++ e ∷ []) vs))) (sym size)
         ∙ placed K L h.cells (lines_on K [] us) (lines_on K (us ++ e ∷ []) vs) (line K us e) in
         record {
           entry = e;
-          next = A.next;
+          next = take_more es n (no_entry K) l;
           owned = low;
           parts = ap parts_of bytes ∙ record_back K (line K us e) (record { next = omega (arith, last_low 0 0 e.cell us (omega arith), W.few_entries); cell = omega (arith, W.few_cells) });
         }

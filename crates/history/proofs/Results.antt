@@ -6,14 +6,14 @@ use Rattle.history.specs.Calls.{Reply, refused}
 
 pub then_ok : {A B E : Type 0} (r : Result A E) (k : A → Result B E) (y : B) → and_then r k ≡ Ok y → (x : A) × (r ≡ Ok x) × (k x ≡ Ok y)
 then_ok (Ok x) k y e = (x, refl, e)
-then_ok (Err q) k y e = let z : ◌≡◌ {A = ℕ} 0 1 = cc in absurd (omega arith)
+then_ok (Err q) k y e = absurd cc
 
 pub as_ok : {A E F : Type 0} (g : E → F) (r : Result A E) (y : A) → refused_as g r ≡ Ok y → r ≡ Ok y
 as_ok g (Ok x) y e = let s : x ≡ y = cc in ap Ok s
-as_ok g (Err q) y e = let z : ◌≡◌ {A = ℕ} 0 1 = cc in absurd (omega arith)
+as_ok g (Err q) y e = absurd cc
 
 pub test_ok : {A E : Type 0} (t : Bool) (e : E) (r : Result A E) (y : A) → refuse_if t e r ≡ Ok y → (t ≡ false) × (r ≡ Ok y)
-test_ok true e r y q = let z : ◌≡◌ {A = ℕ} 0 1 = cc in absurd (omega arith)
+test_ok true e r y q = absurd cc
 test_ok false e r y q = (refl, q)
 
 -- f replies with the refusal

@@ -1,7 +1,8 @@
 -- What revert makes of the memory that a history leaves. Assumes nothing.
-use Rattle.std.proofs.Common.{◌≡◌, ℕ, zero, suc, ◌+◌, ◌<◌, ◌≤◌, Bool, cond, ◌&&◌, eqb, ltb, leb, List, [], ◌∷◌, ◌++◌, length, get_or, Ok, Err, Result, sym, refl, ap, ◌∙◌, subst, inl, inr, arith}
+use Rattle.std.proofs.Common.{◌≡◌, true, ℕ, zero, suc, ◌+◌, ◌<◌, ◌≤◌, Bool, cond, ◌&&◌, eqb, ltb, leb, List, [], ◌∷◌, ◌++◌, length, get_or, Ok, Err, Result, sym, refl, ap, ◌∙◌, subst, inl, inr, arith}
 use Rattle.std.proofs.lemmas.List.{append-nil, append_assoc, length-append}
-use Rattle.std.proofs.lemmas.Bool.{cases_Bool, cases_lt, cond-true, cond-false, and_from, and_left, and_right, ne_eqb, lt-ltb, le-ltb, ltb-false, le-leb, lt-leb}
+use Rattle.std.proofs.lemmas.Bool.Decides.{nat_tests}
+use Rattle.std.proofs.lemmas.Bool.{cases_Bool, cond-true, cond-false, ne_eqb, lt-ltb, ltb-false}
 use Rattle.kind.specs.Answers.{and_then, refuse_if, refused_as, kept}
 use Rattle.kind.specs.Model.{Model, Laws}
 use Rattle.journal.specs.declared.walk.Stretch.{Stretch}
@@ -19,7 +20,7 @@ use Rattle.volume.specs.declared.refusal.Refusal.{Refusal}
 use Rattle.volume.specs.declared.refusal.Refusal.TheVariants.{Moment, Ladder, Full}
 use Rattle.history.specs.Calls.{Reply, counted, refused, reply, revert, restoring, restored, run, fed, replied, predicted}
 use Rattle.history.specs.History.{History, Entry, count, extended, latest, last_number, stood}
-use Rattle.history.proofs.Canonical.{Owned, owned_append, Canonical, sound_is, writes_few, present}
+use Rattle.history.proofs.Canonical.{Owned, owned_append, Canonical, sound_is, taken_if, writes_few, present}
 use Rattle.history.proofs.Entered.{writes, writes_on, writes_append, writes_length, writes_head, latest_append, last_append, through, onward_acts}
 use Rattle.history.proofs.Results.{reply_if}
 use Rattle.history.proofs.Written.{write_taken, write_canonical, after}
@@ -188,29 +189,18 @@ module _ {PS PC : Type 0} (K : Model PS PC) (L : Laws K) {h : History K.State} {
       ∙ ap (λ r. and_then r (λ k. refuse_if (ltb (length v.records) (from + k)) Full (Ok final))) (all_needs h.cells (omega arith))
       ∙ ap (λ n. refuse_if (ltb n (from + length all)) Full (Ok final)) C.all_records
 
-  reverts : to ≤ from → reverted K v to ≡ refuse_if full? Full (Ok final)
-  reverts known = checked ∙ cond-false (ltb from to) (Err Moment) (after_moment from) (le-ltb from to known) ∙ all_tried
-
   abbrev taken? : Bool
   taken? = leb to from && leb (from + length all) h.capacity
 
   pub revert_keeps : Canonical K (fed K h (revert to)) (run K v (revert to))
   revert_keeps =
-      elim (cases_lt from to) [
-        | inl late ↦
-            subst (λ g. Canonical K g (run K v (revert to))) (sym (cond-false taken? (extended h all) h (and_left (leb to from) (leb (from + length all) h.capacity) (lt-leb to from late))))
-            (subst (λ r. Canonical K h (kept v r)) (sym (revert_late late)) C)
-        | inr known ↦ elim (cases_lt h.capacity (from + length all)) [
-          | inl full ↦
-              subst (λ g. Canonical K g (run K v (revert to)))
-              (sym (cond-false taken? (extended h all) h (and_right (leb to from) (leb (from + length all) h.capacity) (lt-leb (from + length all) h.capacity full))))
-              (subst (λ r. Canonical K h (kept v r)) (sym (reverts known ∙ cond-true full? (Err Full) (Ok final) (lt-ltb h.capacity (from + length all) full))) C)
-          | inr fits ↦
-              subst (λ g. Canonical K g (run K v (revert to)))
-              (sym (cond-true taken? (extended h all) h (and_from (leb to from) (leb (from + length all) h.capacity) (le-leb to from known) (le-leb (from + length all) h.capacity fits))))
-              (subst (λ r. Canonical K (extended h all) (kept v r)) (sym (reverts known ∙ cond-false full? (Err Full) (Ok final) (le-ltb h.capacity (from + length all) fits))) (puts_back h.cells (omega arith) fits))
-        ]
-      ]
+      subst (λ r. Canonical K (cond taken? (extended h all) h) (kept v r)) (sym checked)
+      (taken_if K (extended h all) (ltb from to) taken? Moment (after_moment from) C (λ t. grind (arith, nat_tests))
+      (λ t. subst (λ r. Canonical K (cond taken? (extended h all) h) (kept v r)) (sym all_tried)
+      (taken_if K (extended h all) full? taken? Full (Ok final) C (λ t'. grind (arith, nat_tests))
+      (λ t'.
+      let yes : taken? ≡ true = grind (arith, nat_tests) in
+      subst (λ b. Canonical K (cond b (extended h all) h) final) (sym yes) (puts_back h.cells (omega arith) (ltb-false h.capacity (from + length all) t'))))))
 
   pub revert_told : replied K v (revert to) ≡ predicted K h (revert to)
   revert_told =

@@ -1,7 +1,7 @@
 -- What format and write make of the memory that a history leaves. Assumes nothing.
-use Rattle.std.proofs.Common.{◌≡◌, ℕ, ◌+◌, ◌<◌, ◌≤◌, cond, eqb, leb, List, [], ◌∷◌, ◌++◌, length, get_or, take, set, Ok, Err, Result, sym, ap, ◌∙◌, arith}
+use Rattle.std.proofs.Common.{◌≡◌, ℕ, ◌+◌, ◌<◌, cond, eqb, leb, List, [], ◌∷◌, ◌++◌, length, get_or, take, set, Ok, Err, Result, sym, ap, ◌∙◌, arith}
 use Rattle.std.proofs.lemmas.List.{length-set, length_push, take_more_set}
-use Rattle.std.proofs.lemmas.Bool.{cond-true, cond-false, le-leb, lt-leb}
+use Rattle.std.proofs.lemmas.Bool.{cond-false, lt-leb}
 use Rattle.kind.specs.Answers.{and_then, refuse_if, refused_as}
 use Rattle.kind.specs.Model.{Model, Laws}
 use Rattle.journal.specs.declared.record.Record.{Record}
@@ -18,7 +18,7 @@ use Rattle.history.specs.History.{History, Entry, count, appended}
 use Rattle.history.proofs.Canonical.{Sizes, sized_ok, sized_only, owned_append, Canonical, sound_is, writes_few}
 use Rattle.history.proofs.Images.{set_read}
 use Rattle.history.proofs.Results.{then_ok}
-use Rattle.history.proofs.Entered.{writes, write_of, writes_append, writes_length, latest_append}
+use Rattle.history.proofs.Entered.{writes, write_of, writes_append, writes_length, latest_append, through}
 
 module _ {PS PC : Type 0} (K : Model PS PC) where
   pub formats : (m : Memory PS PC) → Sizes (length m.cells) (length m.heads) (length m.records) → formatted K m ≡ Ok (emptied K m)
@@ -52,12 +52,9 @@ module _ {PS PC : Type 0} (K : Model PS PC) where
     abbrev pub tried : Result (Memory PS PC) Refusal
     tried = and_then (logged K v.records v.count (v.count + 1) (get_or v.heads c 0) c f) moved
 
-    checked : written K v c s ≡ refuse_if (leb (length v.cells) c) Cell tried
+    pub tested : written K v c s ≡ refuse_if (leb h.cells c) Cell tried
     unfolding written
-    checked = ap (λ r. and_then r (λ _. refuse_if (leb (length v.cells) c) Cell tried)) (sound_is K C)
-
-    pub write_no_cell : h.cells ≤ c → written K v c s ≡ Err Cell
-    write_no_cell out = checked ∙ cond-true (leb (length v.cells) c) (Err Cell) tried (le-leb (length v.cells) c (omega (arith, C.all_cells)))
+    tested = ap (λ r. and_then r (λ _. refuse_if (leb (length v.cells) c) Cell tried)) (sound_is K C) ∙ ap (λ n. refuse_if (leb n c) Cell tried) C.all_cells
 
     module _ (in' : c < h.cells) where
       pub size : length ws ≡ count h
@@ -77,23 +74,19 @@ module _ {PS PC : Type 0} (K : Model PS PC) where
       unfolding logged
       logs = ap (λ x. and_then (refused_as Ladder x) stored) plans
 
-      tries : written K v c s ≡ tried
-      tries = checked ∙ cond-false (leb (length v.cells) c) (Err Cell) tried (lt-leb (length v.cells) c (omega (arith, C.all_cells)))
-
-      pub write_full : h.capacity ≤ count h → written K v c s ≡ Err Full
-      write_full full =
-          tries ∙ ap (λ x. and_then x moved) (logs ∙ cond-true (leb (length v.records) v.count) (Err Full) (Ok (set v.records v.count r)) (le-leb (length v.records) v.count (omega (arith, C.all_records, C.counts))))
-
       abbrev pub after : Memory PS PC
       after = memory (set v.cells c s) (set v.heads c (v.count + 1)) (set v.records v.count r) (v.count + 1)
 
+      pub tries : tried ≡ refuse_if (leb h.capacity (count h)) Full (Ok after)
+      tries =
+          ap (λ x. and_then x moved) logs ∙ through (λ x. and_then x moved) (leb (length v.records) v.count) (Err Full) (Ok (set v.records v.count r))
+          ∙ ap (λ n. refuse_if (leb n v.count) Full (Ok after)) C.all_records ∙ ap (λ n. refuse_if (leb h.capacity n) Full (Ok after)) C.counts
+
       pub tried_taken : count h < h.capacity → tried ≡ Ok after
-      tried_taken some =
-          ap (λ x. and_then x moved)
-          (logs ∙ cond-false (leb (length v.records) v.count) (Err Full) (Ok (set v.records v.count r)) (lt-leb (length v.records) v.count (omega (arith, C.all_records, C.counts))))
+      tried_taken some = tries ∙ cond-false (leb h.capacity (count h)) (Err Full) (Ok after) (lt-leb h.capacity (count h) some)
 
       pub write_taken : count h < h.capacity → written K v c s ≡ Ok after
-      write_taken some = tries ∙ tried_taken some
+      write_taken some = tested ∙ cond-false (leb h.cells c) (Err Cell) tried (lt-leb h.cells c in') ∙ tried_taken some
 
       -- the entry that it adds, and its write
       abbrev e : Entry K.State

@@ -1,4 +1,5 @@
 // What is promised of every volume: each statement stands on the contract of a function, and specs/ has its text.
+// Where a lemma named at its function is not enough to prove it, as with one that takes the laws of the kind, an answer hands it over.
 #![tactic(auto)]
 
 pub mod owner;

@@ -1,4 +1,5 @@
 // What the journal makes of a log that writes left: each theorem stands on the contract of a function, and specs/Theorems.antt states it.
+// Where a lemma named at its function is not enough to prove it, as with one that takes the laws of the kind, an answer hands it over.
 #![tactic(auto)]
 
 ghost use Rattle.logs.specs.Theorems.{NeverRefused, HeadMoves, SpansRight, StepsFew, EachRecord};
