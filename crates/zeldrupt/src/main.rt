@@ -1,12 +1,13 @@
 // Runs a script of commands on a volume, a line each, and prints each command with its answer.
 #![tactic(auto)]
 
+mod answer;
 mod fault;
 mod lists;
 mod memory;
 mod session;
 
-use script::command::parse;
+use fault::Fault;
 use script::error::ScriptError;
 use script::line::uncomment;
 use session::Session;
@@ -15,7 +16,8 @@ use std::io::{BufRead, BufReader, BufWriter, Write};
 use std::str::from_utf8;
 use std::{env, io};
 
-fn answer<W: Write + Drop>(
+// Prints a line's command with its answer; a blank line prints nothing.
+fn print_answer<W: Write + Drop>(
     rt: &HostRuntime,
     session: &mut Session,
     bytes: &[u8],
@@ -25,34 +27,24 @@ fn answer<W: Write + Drop>(
         return writeln!(out, "?: error: not text");
     };
     let command = uncomment(line).trim();
-    match parse(line) {
-        Ok(c) => match session.answer(rt, c) {
-            Ok(a) => writeln!(out, "{command}: {a}"),
-            Err(e) => writeln!(out, "{command}: {e}"),
-        },
-        Err(ScriptError::Blank) => Ok(()),
-        Err(e) => writeln!(out, "{command}: error: {e}"),
+    match session.answer(rt, line) {
+        Ok(answer) => writeln!(out, "{command}: {answer}"),
+        Err(Fault::Script(ScriptError::Blank)) => Ok(()),
+        Err(fault) => writeln!(out, "{command}: {fault}"),
     }
 }
 
-fn run<B: BufRead + Drop>(rt: &HostRuntime, mut input: B) -> io::Result<()> {
+fn run<B: BufRead + Drop>(rt: &HostRuntime, input: B) -> io::Result<()> {
     let mut out = BufWriter::new(rt.alloc(), rt.stdout())?;
     let mut session = Session::new(rt.alloc());
-    let mut line: Vec<u8> = Vec::new(rt.alloc());
-    for _ in 0..u64::MAX {
-        line.clear();
-        if input.read_until(b'\n', &mut line)? == 0 {
-            break;
-        }
-        answer(rt, &mut session, line.as_slice(), &mut out)?;
+    for line in input.split(rt.alloc(), b'\n') {
+        print_answer(rt, &mut session, line?.as_slice(), &mut out)?;
     }
     out.flush()
 }
 
 fn main(rt: HostRuntime) -> io::Result<()> {
-    let mut args = env::args(&rt)?;
-    let _ = args.next();
-    match args.next() {
+    match env::args(&rt)?.nth(1) {
         Some(path) => run(
             &rt,
             BufReader::new(rt.alloc(), File::open(&rt, path.as_str())?)?,

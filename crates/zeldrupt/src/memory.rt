@@ -1,6 +1,7 @@
 // Memory of one kind, and the commands on it. It is lent to a volume for each call; nothing else touches a volume.
+use crate::answer::Answer;
 use crate::fault::Fault;
-use crate::lists;
+use crate::lists::list;
 use file::records::file_length;
 use journal::record::{Record, place_of};
 use kind::Kind;
@@ -18,23 +19,41 @@ const LIMIT: u32 = 100000;
 // The most bytes of a save's area.
 const MOST_BYTES: usize = 100000000;
 
-const POKED: &str = "poked";
+// How many cells, records and heads a volume is lent.
+#[derive(Clone, Copy, Debug, PartialEq, Eq)]
+pub struct Sizes {
+    pub cells: u32,
+    pub capacity: u32,
+    pub heads: u32,
+}
 
+// The rows that a volume is lent.
 #[derive(Drop)]
-pub struct Memory<K: Notation> {
-    heap: Global,
+struct Rows<K: Kind> {
     cells: Vec<K::State>,
     heads: Vec<u32>,
     records: Vec<Record<K::Change>>,
     count: u32,
+}
+
+#[derive(Drop)]
+pub struct Memory<K: Notation> {
+    heap: Global,
+    rows: Rows<K>,
     image: Vec<K::State>,
     work: Vec<u32>,
 }
 
-fn filled<T: Copy>(heap: Global, x: T, n: usize) -> Result<Vec<T>, AllocError> {
-    let mut row = Vec::new(heap);
-    row.resize(n, x)?;
-    Ok(row)
+impl<K: Kind> Rows<K> {
+    // A volume over them, for one call.
+    fn volume(&mut self) -> Volume<'_, '_, '_, '_, K> {
+        Volume::over(
+            &mut self.cells,
+            &mut self.heads,
+            &mut self.records,
+            &mut self.count,
+        )
+    }
 }
 
 fn zero_record<K: Notation>() -> Record<K::Change> {
@@ -49,19 +68,15 @@ fn zero_record<K: Notation>() -> Record<K::Change> {
     }
 }
 
-// The record with another value in one field.
-fn damaged<K: Notation>(
-    r: Record<K::Change>,
+// Puts another value in one field of a record.
+fn damage<K: Notation>(
+    r: &mut Record<K::Change>,
     field: Field,
     value: &str,
-) -> Result<Record<K::Change>, Fault> {
-    let mut r = r;
+) -> Result<(), ScriptError> {
     match field {
         Field::Cell => {
-            let Ok(cell) = u16::try_from(unsigned(value)?) else {
-                return Err(Fault::Script(ScriptError::Number));
-            };
-            r.cell = cell;
+            r.cell = u16::try_from(unsigned(value)?).map_err(|_| ScriptError::Number)?;
         }
         Field::Next => r.next = unsigned(value)?,
         Field::Skip => r.skip = unsigned(value)?,
@@ -70,228 +85,162 @@ fn damaged<K: Notation>(
         Field::Change => r.change = K::parse_change(value)?,
         Field::Fold => r.fold = K::parse_change(value)?,
     }
-    Ok(r)
+    Ok(())
+}
+
+// Puts a value at a place of a row.
+fn set<T: Copy>(row: &mut [T], at: u32, value: T) -> Result<(), Fault> {
+    *row.get_mut(at as usize).ok_or(Fault::Place)? = value;
+    Ok(())
 }
 
 impl<K: Notation> Memory<K> {
     // Memory of zero bytes alone.
-    pub fn new(heap: Global, cells: u32, capacity: u32, heads: u32) -> Result<Memory<K>, Fault> {
-        if cells > LIMIT || capacity > LIMIT || heads > LIMIT {
+    pub fn new(heap: Global, sizes: Sizes) -> Result<Memory<K>, Fault> {
+        if sizes.cells > LIMIT || sizes.capacity > LIMIT || sizes.heads > LIMIT {
             return Err(Fault::Large);
         }
         Ok(Memory {
             heap,
-            cells: filled(heap, K::zero_state(), cells as usize)?,
-            heads: filled(heap, 0, heads as usize)?,
-            records: filled(heap, zero_record::<K>(), capacity as usize)?,
-            count: 0,
-            image: filled(heap, K::zero_state(), cells as usize)?,
+            rows: Rows {
+                cells: vec![in heap; K::zero_state(); sizes.cells as usize]?,
+                heads: vec![in heap; 0u32; sizes.heads as usize]?,
+                records: vec![in heap; zero_record::<K>(); sizes.capacity as usize]?,
+                count: 0,
+            },
+            image: vec![in heap; K::zero_state(); sizes.cells as usize]?,
             work: Vec::new(heap),
         })
     }
 
-    pub fn format(&mut self) -> Result<String, Fault> {
-        Volume::<K>::over(
-            &mut self.cells,
-            &mut self.heads,
-            &mut self.records,
-            &mut self.count,
-        )
-        .format()?;
-        Ok(String::from_str(self.heap, "formatted")?)
+    pub fn format(&mut self) -> Result<Answer, Fault> {
+        self.rows.volume().format()?;
+        Ok(Answer::Formatted)
     }
 
-    fn write(&mut self, cell: u32, state: &str) -> Result<String, Fault> {
+    fn write(&mut self, cell: u32, state: &str) -> Result<Answer, Fault> {
         let state = K::parse_state(state)?;
-        let count = Volume::<K>::over(
-            &mut self.cells,
-            &mut self.heads,
-            &mut self.records,
-            &mut self.count,
-        )
-        .write(cell, &state)?;
-        Ok(format!(in self.heap; "count {count}")?)
+        Ok(Answer::Count(self.rows.volume().write(cell, &state)?))
     }
 
-    fn read(&mut self, cell: u32) -> Result<String, Fault> {
+    fn read(&mut self, cell: u32) -> Result<Answer, Fault> {
         let mut place = K::origin();
-        Volume::<K>::over(
-            &mut self.cells,
-            &mut self.heads,
-            &mut self.records,
-            &mut self.count,
-        )
-        .read(cell, &mut place)?;
-        let state = K::show_state(self.heap, &place)?;
-        Ok(format!(in self.heap; "state {state}")?)
+        self.rows.volume().read(cell, &mut place)?;
+        Ok(Answer::State(K::show_state(self.heap, &place)?))
     }
 
-    fn span(&mut self, cell: u32, from: u32, to: u32) -> Result<String, Fault> {
+    fn span(&mut self, cell: u32, from: u32, to: u32) -> Result<Answer, Fault> {
         let mut place = K::unit();
-        let steps = Volume::<K>::over(
-            &mut self.cells,
-            &mut self.heads,
-            &mut self.records,
-            &mut self.count,
-        )
-        .span(cell, from, to, &mut place)?;
+        let steps = self.rows.volume().span(cell, from, to, &mut place)?;
         let change = K::show_change(self.heap, &place)?;
-        Ok(format!(in self.heap; "change {change}, steps {steps}")?)
+        Ok(Answer::Change { change, steps })
     }
 
-    fn revert(&mut self, moment: u32) -> Result<String, Fault> {
-        let count = Volume::<K>::over(
-            &mut self.cells,
-            &mut self.heads,
-            &mut self.records,
-            &mut self.count,
-        )
-        .revert(moment)?;
-        Ok(format!(in self.heap; "count {count}")?)
+    fn revert(&mut self, moment: u32) -> Result<Answer, Fault> {
+        Ok(Answer::Count(self.rows.volume().revert(moment)?))
     }
 
-    fn check(&mut self, length: Option<u32>) -> Result<String, Fault> {
-        let length = match length {
-            Some(n) => n as usize,
-            None => self.cells.len(),
-        };
+    fn check(&mut self, length: Option<u32>) -> Result<Answer, Fault> {
+        let length = length.map_or(self.rows.cells.len(), |n| n as usize);
         if length > LIMIT as usize {
             return Err(Fault::Large);
         }
-        self.work = filled(self.heap, 0, length)?;
-        Volume::<K>::over(
-            &mut self.cells,
-            &mut self.heads,
-            &mut self.records,
-            &mut self.count,
-        )
-        .check(&mut self.work)?;
-        Ok(String::from_str(self.heap, "sound")?)
+        self.work = vec![in self.heap; 0u32; length]?;
+        self.rows.volume().check(&mut self.work)?;
+        Ok(Answer::Sound)
     }
 
-    fn roll(&mut self, from: u32, to: u32) -> Result<String, Fault> {
-        Volume::<K>::over(
-            &mut self.cells,
-            &mut self.heads,
-            &mut self.records,
-            &mut self.count,
-        )
-        .roll(&mut self.image, from, to)?;
-        Ok(String::from_str(self.heap, "rolled")?)
+    fn roll(&mut self, from: u32, to: u32) -> Result<Answer, Fault> {
+        self.rows.volume().roll(&mut self.image, from, to)?;
+        Ok(Answer::Rolled)
     }
 
-    fn replay(&mut self, moment: u32) -> Result<String, Fault> {
-        Volume::<K>::over(
-            &mut self.cells,
-            &mut self.heads,
-            &mut self.records,
-            &mut self.count,
-        )
-        .replay(&mut self.image, moment)?;
-        Ok(String::from_str(self.heap, "replayed")?)
+    fn replay(&mut self, moment: u32) -> Result<Answer, Fault> {
+        self.rows.volume().replay(&mut self.image, moment)?;
+        Ok(Answer::Replayed)
     }
 
     // Writes the volume's file to a path, through an area of just its length or of the length that is asked for.
-    fn save(&mut self, rt: &HostRuntime, path: &str, area: Option<u32>) -> Result<String, Fault> {
-        let length = match area {
-            Some(n) => n as usize,
-            None => file_length::<K>(self.count.min(LIMIT)),
-        };
+    fn save(&mut self, rt: &HostRuntime, path: &str, area: Option<u32>) -> Result<Answer, Fault> {
+        let whole = file_length::<K>(self.rows.count.min(LIMIT));
+        let length = area.map_or(whole, |n| n as usize);
         if length > MOST_BYTES {
             return Err(Fault::Large);
         }
-        let mut bytes = filled(self.heap, 0u8, length)?;
-        let n = Volume::<K>::over(
-            &mut self.cells,
-            &mut self.heads,
-            &mut self.records,
-            &mut self.count,
-        )
-        .save(&mut bytes)?;
+        let mut bytes = vec![in self.heap; 0u8; length]?;
+        let n = self.rows.volume().save(&mut bytes)?;
         bytes.truncate(n);
         fs::write(rt, path, bytes.as_slice())?;
-        Ok(format!(in self.heap; "saved {n} bytes")?)
+        Ok(Answer::Saved(n))
     }
 
-    fn load(&mut self, rt: &HostRuntime, path: &str) -> Result<String, Fault> {
+    fn load(&mut self, rt: &HostRuntime, path: &str) -> Result<Answer, Fault> {
         let file = fs::read(rt, path)?;
-        let count = Volume::<K>::over(
-            &mut self.cells,
-            &mut self.heads,
-            &mut self.records,
-            &mut self.count,
-        )
-        .load(file.as_slice())?;
-        Ok(format!(in self.heap; "count {count}")?)
+        Ok(Answer::Count(self.rows.volume().load(file.as_slice())?))
     }
 
-    fn image_live(&mut self) -> Result<String, Fault> {
-        self.image = Vec::from_slice(self.heap, &self.cells)?;
-        Ok(String::from_str(self.heap, "copied")?)
+    fn image_live(&mut self) -> Result<Answer, Fault> {
+        self.image = self.rows.cells.clone()?;
+        Ok(Answer::Copied)
     }
 
-    fn image_set(&mut self, at: u32, state: &str) -> Result<String, Fault> {
-        let state = K::parse_state(state)?;
-        let Some(place) = self.image.get_mut(at as usize) else {
-            return Err(Fault::Place);
-        };
-        *place = state;
-        Ok(String::from_str(self.heap, "set")?)
+    fn image_set(&mut self, at: u32, state: &str) -> Result<Answer, Fault> {
+        set(&mut self.image, at, K::parse_state(state)?)?;
+        Ok(Answer::Set)
     }
 
-    fn image_length(&mut self, length: u32) -> Result<String, Fault> {
+    fn image_length(&mut self, length: u32) -> Result<Answer, Fault> {
         if length > LIMIT {
             return Err(Fault::Large);
         }
         self.image.resize(length as usize, K::zero_state())?;
-        Ok(format!(in self.heap; "{length} states")?)
+        Ok(Answer::States(length))
     }
 
-    fn poke_cell(&mut self, cell: u32, state: &str) -> Result<String, Fault> {
-        let state = K::parse_state(state)?;
-        let Some(place) = self.cells.get_mut(cell as usize) else {
-            return Err(Fault::Place);
-        };
-        *place = state;
-        Ok(String::from_str(self.heap, POKED)?)
+    fn poke_cell(&mut self, cell: u32, state: &str) -> Result<Answer, Fault> {
+        set(&mut self.rows.cells, cell, K::parse_state(state)?)?;
+        Ok(Answer::Poked)
     }
 
-    fn poke_head(&mut self, cell: u32, record: u32) -> Result<String, Fault> {
-        let Some(place) = self.heads.get_mut(cell as usize) else {
-            return Err(Fault::Place);
-        };
-        *place = record;
-        Ok(String::from_str(self.heap, POKED)?)
+    fn poke_head(&mut self, cell: u32, record: u32) -> Result<Answer, Fault> {
+        set(&mut self.rows.heads, cell, record)?;
+        Ok(Answer::Poked)
     }
 
-    fn poke_count(&mut self, count: u32) -> Result<String, Fault> {
-        self.count = count;
-        Ok(String::from_str(self.heap, POKED)?)
+    fn poke_count(&mut self, count: u32) -> Answer {
+        self.rows.count = count;
+        Answer::Poked
     }
 
-    fn poke_record(&mut self, number: u32, field: Field, value: &str) -> Result<String, Fault> {
+    fn poke_record(&mut self, number: u32, field: Field, value: &str) -> Result<Answer, Fault> {
         if number == 0 {
             return Err(Fault::Place);
         }
-        let Some(place) = self.records.get_mut(place_of(number as usize)) else {
-            return Err(Fault::Place);
-        };
-        *place = damaged::<K>(*place, field, value)?;
-        Ok(String::from_str(self.heap, POKED)?)
+        let record = self.rows.records.get_mut(place_of(number as usize));
+        damage::<K>(record.ok_or(Fault::Place)?, field, value)?;
+        Ok(Answer::Poked)
     }
 
     // The first `count` records, a line each.
-    fn log(&self) -> Result<String, Fault> {
+    fn log(&self) -> Result<Answer, Fault> {
         let heap = self.heap;
-        let most = self.records.len().min(self.count as usize);
+        let most = self.rows.records.len().min(self.rows.count as usize);
         let mut text = format!(in heap; "{most} records")?;
-        for (i, r) in self.records.iter().take(most).enumerate() {
+        for (i, r) in self.rows.records.iter().take(most).enumerate() {
             text.push_str(line_of::<K>(heap, i, r)?.as_str())?;
         }
-        Ok(text)
+        Ok(Answer::Text(text))
     }
 
-    pub fn answer(&mut self, rt: &HostRuntime, command: Spoken<'_>) -> Result<String, Fault> {
+    fn numbers(&self, row: &[u32]) -> Result<Answer, Fault> {
+        Ok(Answer::Text(list(self.heap, row, |n| n.to_string(self.heap))?))
+    }
+
+    fn states(&self, row: &[K::State]) -> Result<Answer, Fault> {
+        Ok(Answer::Text(list(self.heap, row, |s| K::show_state(self.heap, s))?))
+    }
+
+    pub fn answer(&mut self, rt: &HostRuntime, command: Spoken<'_>) -> Result<Answer, Fault> {
         match command {
             Command::Save { path, area } => self.save(rt, path, area),
             Command::Load { path } => self.load(rt, path),
@@ -302,23 +251,24 @@ impl<K: Notation> Memory<K> {
             Command::Check { work } => self.check(work),
             Command::Roll { from, to } => self.roll(from, to),
             Command::Replay { moment } => self.replay(moment),
-            Command::Work => Ok(lists::numbers(self.heap, &self.work)?),
-            Command::Image => Ok(lists::states::<K>(self.heap, &self.image)?),
+            Command::Work => self.numbers(&self.work),
+            Command::Image => self.states(&self.image),
             Command::ImageLive => self.image_live(),
             Command::ImageSet { cell, state } => self.image_set(cell, state),
             Command::ImageLength { length } => self.image_length(length),
             Command::Log => self.log(),
-            Command::Cells => Ok(lists::states::<K>(self.heap, &self.cells)?),
-            Command::Heads => Ok(lists::numbers(self.heap, &self.heads)?),
-            Command::Count => Ok(self.count.to_string(self.heap)?),
+            Command::Cells => self.states(&self.rows.cells),
+            Command::Heads => self.numbers(&self.rows.heads),
+            Command::Count => Ok(Answer::Number(self.rows.count)),
             Command::PokeCell { cell, state } => self.poke_cell(cell, state),
             Command::PokeHead { cell, record } => self.poke_head(cell, record),
-            Command::PokeCount { count } => self.poke_count(count),
+            Command::PokeCount { count } => Ok(self.poke_count(count)),
             Command::PokeRecord {
                 record,
                 field,
                 value,
             } => self.poke_record(record, field, value),
+            // the session answers these itself
             _ => Err(Fault::Unformatted),
         }
     }
@@ -331,14 +281,10 @@ fn line_of<K: Notation>(
     r: &Record<K::Change>,
 ) -> Result<String, AllocError> {
     let number = i.saturating_add(1);
-    let cell = r.cell;
-    let next = r.next;
-    let skip = r.skip;
-    let length = r.length;
-    let foot = r.foot;
     let change = K::show_change(heap, &r.change)?;
     let fold = K::show_change(heap, &r.fold)?;
     format!(in heap;
-        "\n  {number}: cell {cell}, next {next}, skip {skip}, length {length}, foot {foot}, change {change}, fold {fold}"
+        "\n  {number}: cell {}, next {}, skip {}, length {}, foot {}, change {change}, fold {fold}",
+        r.cell, r.next, r.skip, r.length, r.foot
     )
 }
