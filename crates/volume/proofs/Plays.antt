@@ -1,6 +1,6 @@
 -- Records played one after the other, each of which was tried. Assumes nothing.
-use Rattle.std.proofs.Common.{◌≡◌, ℕ, ◌+◌, ◌<◌, List, length, get_or, Ok, sym, ap, ◌∙◌, add-one, arith}
-use Rattle.std.proofs.lemmas.List.{get_or_default}
+use Rattle.std.proofs.Common.{◌≡◌, ℕ, ◌+◌, ◌<◌, ◌≤◌, List, length, take, get_or, Ok, sym, ap, ◌∙◌, add-one, arith, length-take-le}
+use Rattle.std.proofs.lemmas.List.{get_or_default, get_or-take}
 use Rattle.std.proofs.lemmas.Bool.Decides.{nat_tests}
 use Rattle.kind.specs.Answers.{each_below}
 use Rattle.kind.specs.Model.{Model}
@@ -15,6 +15,13 @@ module _ {PS PC : Type 0} (K : Model PS PC) (rs : List (Record PC)) (i : ℕ) wh
   read_at place r l p e =
       let low : place < length rs = omega arith in
       e ∙ get_or_default rs place r (blank K) low ∙ ap (λ k. get_or rs k (blank K)) p
+
+  -- .. and what a walk along the first `moment` records is at
+  pub item_at : (moment : ℕ) (r : Record PC) → moment ≤ length rs → i < length (take moment rs) → r ≡ get_or (take moment rs) i r → r ≡ numbered K rs (i + 1)
+  item_at moment r l h e =
+      let long = length-take-le moment rs l in
+      let low : i < moment = omega arith in
+      read_at i r (omega arith) (omega arith) (e ∙ get_or-take moment rs i r low)
 
   known_low : (cells : ℕ) → cell_known K cells rs i ≡ Ok tt → (numbered K rs (i + 1)).cell < cells
   known_low cells e = grind (arith, nat_tests)

@@ -1,5 +1,5 @@
 -- Load: a volume filled from a file. Assumes nothing.
-use Rattle.std.specs.Prelude.{ℕ, zero, suc, ◌+◌, not, List, length, Some, Ok, Err, Result, ◌==◌, nat_le, slice_index, slice_index_or}
+use Rattle.std.specs.Prelude.{ℕ, zero, suc, not, List, length, Some, Ok, Err, Result, ◌==◌, nat_le, slice_index, slice_index_or}
 use Rattle.kind.specs.Answers.{and_then, refuse_if, refused_as, kept}
 use Rattle.kind.specs.Model.{Model}
 use Rattle.file.specs.declared.faults.FileFault.TheVariants.{Cell, Next}

@@ -7,7 +7,6 @@ ghost use Rattle.volume.specs.Memory.{held, KeepsLoans};
 use crate::Volume;
 use crate::parts::{fill_with, log_change};
 use crate::refusal::Refusal;
-use crate::reverts::state_at;
 use crate::sizes::check_sizes;
 use kind::Kind;
 
@@ -88,7 +87,7 @@ impl<K: Kind> Volume<'_, '_, '_, '_, K> {
         if i >= self.cells.len() {
             return Err(Refusal::Cell);
         }
-        *place = state_at::<K>(self.cells, i);
+        *place = self.view().state(i);
         Ok(())
     }
 
@@ -108,7 +107,7 @@ impl<K: Kind> Volume<'_, '_, '_, '_, K> {
         if a > count || b > count {
             return Err(Refusal::Moment);
         }
-        let found = self.chain(i).span(count, a, b)?;
+        let found = self.view().chain(i).span(count, a, b)?;
         *place = found.change;
         Ok(found.steps)
     }

@@ -13,6 +13,7 @@ mod reverts;
 mod rolls;
 mod saves;
 mod sizes;
+mod tested;
 
 ghost use Rattle.std.specs.Prelude.{◌≡◌};
 ghost use Rattle.volume.specs.Memory.{memory, held};

@@ -18,7 +18,8 @@ use file::records::{SavedRecord, record_at};
 use kind::Kind;
 
 impl<K: Kind> Volume<'_, '_, '_, '_, K> {
-    // Acts on a cell with a change and logs it.
+    // Acts on a cell with a change and logs it. The sizes are asked for here and below, and not held by a view, since the volume is
+    // written between.
     fn enter(&mut self, cell: u16, change: &K::Change) -> Result<(), Refusal>
         requires there { cell < length self.old.cells.now }
         requires paired { length self.old.heads.now ≡ length self.old.cells.now }
@@ -67,7 +68,8 @@ impl<K: Kind> Volume<'_, '_, '_, '_, K> {
         self.take_parts(saved, n)
     }
 
-    // Takes in records 1 to `count`, up to the first that is refused.
+    // Takes in records 1 to `count`, up to the first that is refused. By the record's number, which the file and the faults have.
+    #[tactic(auto, using(crate::proofs::Loans::along, crate::proofs::Takes::takes_more, crate::proofs::Takes::takes_all))]
     fn take_records(&mut self, file: &[u8], count: u32) -> Result<(), Refusal>
         requires paired { length self.old.heads.now ≡ length self.old.cells.now }
         requires blank { self.old.count.now ≡ 0 }

@@ -9,6 +9,7 @@ use journal::record::Record;
 use kind::Kind;
 
 // Sets each element. By an index, since `fill` asks that cloning an element never fails, which no law of a kind says.
+#[tactic(auto, using(crate::proofs::Fills::filling_more, crate::proofs::Fills::filling_all))]
 pub(crate) fn fill_with<T: Copy>(slice: &mut [T], value: T)
     ensures { slice.new ≡ replicate (length slice.old) value }
 {
@@ -17,7 +18,8 @@ pub(crate) fn fill_with<T: Copy>(slice: &mut [T], value: T)
     }
 }
 
-// Logs a change as the record after `count` of them.
+// Logs a change as the record after `count` of them. Over the records alone, since no log is made over a part of a volume that is
+// lent to a method.
 #[inline(always)]
 #[tactic(auto, unfolding(crate::specs::Calls::logged))]
 pub(crate) fn log_change<K: Kind>(

@@ -27,7 +27,8 @@ fn try_record<K: Kind>(
     Ok(())
 }
 
-// Tries records 1 to `moment`; the lowest that is of no cell is the fault.
+// Tries records 1 to `moment`; the lowest that is of no cell is the fault. By the record's number, which the fault names.
+#[tactic(auto, using(crate::proofs::Tries::tries_stop, crate::proofs::Tries::tries_more, crate::proofs::Tries::tries_all))]
 pub(crate) fn try_records<K: Kind>(
     records: &[Record<K::Change>],
     cells: usize,
@@ -57,8 +58,8 @@ fn play_records<K: Kind>(image: &mut [K::State], records: &[Record<K::Change>], 
     ensures { image.new ≡ played_to K.Kind.model (length image.old) records.now moment }
 {
     fill_with(image, K::origin());
-    for i in 0..moment {
-        play_record::<K>(image, &records[place_of(i as usize + 1)]);
+    for r in &records[..moment as usize] {
+        play_record::<K>(image, r);
     }
 }
 

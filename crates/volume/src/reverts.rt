@@ -1,78 +1,67 @@
 // Revert: the cells are written back to how they stood at a moment.
-ghost use Rattle.std.specs.Prelude.{◌≡◌, ◌<◌, ◌≤◌, length, IfOk, slice_index_or};
+ghost use Rattle.std.specs.Prelude.{◌≡◌, ◌<◌, ◌≤◌, length, IfOk};
 ghost use Rattle.kind.specs.Answers.{kept};
-ghost use Rattle.volume.specs.Calls.{origin};
-ghost use Rattle.volume.specs.Memory.{held, KeepsLoans};
+ghost use Rattle.volume.specs.Memory.{held, seen, KeepsLoans};
 ghost use Rattle.volume.specs.Reverts.{held_state, earlier_state, alike, needed, all_needed, put_back, put_all_back, taken_back, reverted, count_of};
 
 use crate::Volume;
 use crate::refusal::Refusal;
+use crate::tested::Tested;
 use kind::Kind;
 
-// A copy of a cell's state.
-pub(crate) fn state_at<K: Kind>(cells: &[K::State], i: usize) -> K::State
-    requires { i < length cells.now }
-    ensures { result ≡ slice_index_or cells.now i (origin K.Kind.model) }
-{
-    cells[i]
-}
-
-impl<K: Kind> Volume<'_, '_, '_, '_, K> {
+impl<K: Kind> Tested<'_, K> {
     // The state of a cell as its span from moment `from`, the count at the call, to moment `to` leaves it.
     fn earlier(&self, from: u32, to: u32, i: usize) -> Result<K::State, Refusal>
         requires there { i < length self.now.cells.now }
-        requires few { length self.now.cells.now ≤ 4096 }
-        requires paired { length self.now.heads.now ≡ length self.now.cells.now }
-        ensures { result ≡ earlier_state K.Kind.model from to (held self.now) i }
+        ensures { result ≡ earlier_state K.Kind.model from to (seen self.now) i }
     {
         let found = self.chain(i).span(from, from, to)?;
-        let state = state_at::<K>(self.cells, i);
+        let state = self.state(i);
         Ok(K::act(&found.change, &state))
     }
 
     // Whether a cell has this state already.
     fn stands(&self, i: usize, state: &K::State) -> bool
         requires there { i < length self.now.cells.now }
-        ensures { result ≡ alike K.Kind.model (held_state K.Kind.model (held self.now) i) state.now }
+        ensures { result ≡ alike K.Kind.model (held_state K.Kind.model (seen self.now) i) state.now }
     {
-        let standing = state_at::<K>(self.cells, i);
-        K::same_state(&standing, state)
+        K::same_state(&self.state(i), state)
     }
 
     // How many writes a cell needs, none or one; the tests of the write are tried.
     fn needs(&self, from: u32, to: u32, i: usize) -> Result<u32, Refusal>
         requires there { i < length self.now.cells.now }
-        requires few { length self.now.cells.now ≤ 4096 }
-        requires paired { length self.now.heads.now ≡ length self.now.cells.now }
         requires low { from ≤ 65535 }
-        ensures answer { result ≡ needed K.Kind.model from to (held self.now) i }
+        ensures answer { result ≡ needed K.Kind.model from to (seen self.now) i }
         ensures low { IfOk result (λ n. n ≤ 1) }
     {
         let target = self.earlier(from, to, i)?;
-        let state = state_at::<K>(self.cells, i);
+        let state = self.state(i);
         if K::same_state(&state, &target) {
             return Ok(0);
         }
         let change = K::difference(&state, &target);
-        let _ = self.chain(i).next_record(from + 1, &change)?;
+        self.chain(i).next_record(from + 1, &change)?;
         Ok(1)
     }
 
-    // How many writes all cells need.
+    // How many writes all cells need. By the cell's number, which is that of its state, its head and its links.
+    #[tactic(auto, using(crate::proofs::Restores::needed_more))]
     fn all_need(&self, from: u32, to: u32) -> Result<u32, Refusal>
-        requires few { length self.now.cells.now ≤ 4096 }
-        requires paired { length self.now.heads.now ≡ length self.now.cells.now }
         requires low { from ≤ 65535 }
-        ensures answer { result ≡ all_needed K.Kind.model from to (held self.now) (length self.now.cells.now) }
+        ensures answer { result ≡ all_needed K.Kind.model from to (seen self.now) (length self.now.cells.now) }
         ensures low { IfOk result (λ n. n ≤ 4096) }
     {
         let mut writes = 0;
-        for i in 0..self.cells.len() {
+        let cells = self.cells;
+        for i in 0..cells.len() {
             writes += self.needs(from, to, i)?;
         }
         Ok(writes)
     }
+}
 
+impl<K: Kind> Volume<'_, '_, '_, '_, K> {
     // Writes a cell back where it stands otherwise. A refusal would leave it as it is; where every cell was tried before, none comes.
     fn restore(&mut self, from: u32, to: u32, i: usize)
         requires there { i < length self.old.cells.now }
@@ -81,16 +70,17 @@ impl<K: Kind> Volume<'_, '_, '_, '_, K> {
         ensures after { held self.new ≡ put_back K.Kind.model from to (held self.old) i }
         ensures loans { KeepsLoans self.old self.new }
     {
-        let Ok(target) = self.earlier(from, to, i) else {
+        let Ok(target) = self.view().earlier(from, to, i) else {
             return;
         };
-        if self.stands(i, &target) {
+        if self.view().stands(i, &target) {
             return;
         }
         let _ = self.write(i as u32, &target);
     }
 
-    // Writes every cell back, in order.
+    // Writes every cell back, in order. By the cell's number, since each write changes the rows.
+    #[tactic(auto, using(crate::proofs::Loans::along, crate::proofs::Restores::one_more_back))]
     fn restore_all(&mut self, from: u32, to: u32)
         requires few { length self.old.cells.now ≤ 4096 }
         requires paired { length self.old.heads.now ≡ length self.old.cells.now }
@@ -115,7 +105,7 @@ impl<K: Kind> Volume<'_, '_, '_, '_, K> {
         if moment > count {
             return Err(Refusal::Moment);
         }
-        let writes = self.all_need(count, moment)?;
+        let writes = self.view().all_need(count, moment)?;
         if (count + writes) as usize > self.records.len() {
             return Err(Refusal::Full);
         }

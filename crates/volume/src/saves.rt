@@ -23,7 +23,7 @@ fn put_record<K: Kind>(r: &Record<K::Change>, n: u32, area: &mut [u8])
     let _ = write_record_at::<K>(n, r.next, cell_of(r), &r.change, area);
 }
 
-// Writes the header and then the first `count` records.
+// Writes the header and then the first `count` records. By the record's number, which is its place in the file.
 fn put_file<K: Kind>(cells: u16, records: &[Record<K::Change>], count: u32, area: &mut [u8])
     requires there { count ≤ length records.now }
     requires few { count ≤ 65535 }

@@ -1,8 +1,0 @@
-use Rattle.std.proofs.Common.{◌≡◌, Ok}
-use Rattle.kind.specs.Answers.{each_below}
-use Rattle.volume.specs.Checks.{cell_right}
-use Rattle.volume.specs.Memory.{held}
-use Rattle.volume.proofs.Volume.check_cells.Given as goal
-
-abbrev pub invariant-loop-i : goal.invariant-loop-i
-invariant-loop-i g l = each_below (cell_right g.K.Kind.model (held l.self)) l.i ≡ Ok tt
