@@ -3,7 +3,7 @@ use crate::answer::Answer;
 use crate::fault::Fault;
 use crate::memory::{Memory, Sizes};
 use file::faults::FileFault;
-use file::header::any_header;
+use file::header::{Header, any_header};
 use file::items::{Item, Items};
 use file::letters::{BoardKind, kind_of};
 use file::records::SavedRecord;
@@ -37,33 +37,6 @@ fn push_bytes(heap: Global, word: &str, bytes: &mut Vec<u8>) -> Result<(), Fault
     let mut more = vec![in heap; 0u8; word.len() / 2]?;
     hex::read_exact(word, &mut more)?;
     bytes.extend_from_slice(&more)?;
-    Ok(())
-}
-
-// A record's line of an item listing, numbered from 1.
-fn record_line(heap: Global, number: u32, r: &SavedRecord<'_>) -> Result<String, Fault> {
-    let change = hex::render(heap, r.change)?;
-    Ok(format!(in heap;
-        "\n  record {number}: next {}, cell {}, change {change}",
-        r.next, r.cell
-    )?)
-}
-
-// The items of a file after its header, a line each.
-fn push_items(heap: Global, items: &mut Items<'_>, text: &mut String) -> Result<(), Fault> {
-    for number in 1..u32::MAX {
-        match items.next_item() {
-            Ok(Item::Record(r)) => text.push_str(record_line(heap, number, &r)?.as_str())?,
-            Err(FileFault::Cell(n)) => {
-                text.push_str(format!(in heap; "\n  refused 15: record {n}")?.as_str())?;
-                break;
-            }
-            _ => {
-                text.push_str("\n  end")?;
-                break;
-            }
-        }
-    }
     Ok(())
 }
 
@@ -114,17 +87,41 @@ impl Session {
         Ok(Answer::Text(hex::render(self.heap, bytes.as_slice())?))
     }
 
+    // The items of a file, a line each. The reader gives an end again and again, so the loop has a bound of its own, above any
+    // number of records.
     fn items(&self, rt: &HostRuntime, path: &str) -> Result<Answer, Fault> {
-        let heap = self.heap;
         let bytes = fs::read(rt, path)?;
         let mut items = Items::new(bytes.as_slice());
-        let mut text = match items.next_item()? {
-            Item::Header(h) => {
-                format!(in heap; "header {}, cells {}, count {}", h.letter, h.cells, h.count)?
+        let mut text = String::new(self.heap);
+        for number in 0..u32::MAX {
+            match items.next_item() {
+                Ok(
+                    Item::Header(
+                        Header {
+                            letter,
+                            cells,
+                            count,
+                        },
+                    ),
+                ) => write!(text, "header {letter}, cells {cells}, count {count}")?,
+                Ok(Item::Record(SavedRecord { next, cell, change })) => {
+                    let change = hex::render(self.heap, change)?;
+                    write!(
+                        text,
+                        "\n  record {number}: next {next}, cell {cell}, change {change}"
+                    )?;
+                }
+                Ok(Item::End) => {
+                    text.push_str("\n  end")?;
+                    break;
+                }
+                Err(FileFault::Cell(n)) => {
+                    write!(text, "\n  refused 15: record {n}")?;
+                    break;
+                }
+                Err(fault) => return Err(Fault::File(fault)),
             }
-            _ => String::new(heap),
-        };
-        push_items(heap, &mut items, &mut text)?;
+        }
         Ok(Answer::Text(text))
     }
 
@@ -178,6 +175,7 @@ impl Session {
                 moment,
                 area,
             } => self.recall(rt, path, cell, moment, area),
+            // a line for each kind: a trait of these commands would be one method that hands them on
             other => match self.store.as_mut().ok_or(Fault::Unformatted)? {
                 Store::Blocks(memory) => memory.answer(rt, other),
                 Store::Tallies(memory) => memory.answer(rt, other),
