@@ -3,7 +3,7 @@ use crate::answer::Answer;
 use crate::fault::Fault;
 use crate::memory::{Memory, Sizes};
 use file::faults::FileFault;
-use file::header::{Header, any_header};
+use file::header::any_header;
 use file::items::{Item, Items};
 use file::letters::{BoardKind, kind_of};
 use file::records::SavedRecord;
@@ -95,15 +95,13 @@ impl Session {
         let mut text = String::new(self.heap);
         for number in 0..u32::MAX {
             match items.next_item() {
-                Ok(
-                    Item::Header(
-                        Header {
-                            letter,
-                            cells,
-                            count,
-                        },
-                    ),
-                ) => write!(text, "header {letter}, cells {cells}, count {count}")?,
+                Ok(Item::Header(h)) => {
+                    write!(
+                        text,
+                        "header {}, cells {}, count {}",
+                        h.letter, h.cells, h.count
+                    )?;
+                }
                 Ok(Item::Record(SavedRecord { next, cell, change })) => {
                     let change = hex::render(self.heap, change)?;
                     write!(
