@@ -9,7 +9,7 @@ use script::arguments::unsigned;
 use script::command::{Command, Field, Spoken};
 use script::error::ScriptError;
 use script::notation::Notation;
-use std::alloc::{AllocError, Global};
+use std::alloc::Global;
 use std::fs;
 use volume::Volume;
 
@@ -223,11 +223,17 @@ impl<K: Notation> Memory<K> {
 
     // The first `count` records, a line each.
     fn log(&self) -> Result<Answer, Fault> {
-        let heap = self.heap;
         let most = self.rows.records.len().min(self.rows.count as usize);
-        let mut text = format!(in heap; "{most} records")?;
+        let mut text = format!(in self.heap; "{most} records")?;
         for (i, r) in self.rows.records.iter().take(most).enumerate() {
-            text.push_str(line_of::<K>(heap, i, r)?.as_str())?;
+            let number = i + 1;
+            let change = K::show_change(self.heap, &r.change)?;
+            let fold = K::show_change(self.heap, &r.fold)?;
+            write!(
+                text,
+                "\n  {number}: cell {}, next {}, skip {}, length {}, foot {}, change {change}, fold {fold}",
+                r.cell, r.next, r.skip, r.length, r.foot
+            )?;
         }
         Ok(Answer::Text(text))
     }
@@ -272,19 +278,4 @@ impl<K: Notation> Memory<K> {
             _ => Err(Fault::Unformatted),
         }
     }
-}
-
-// A record's line of the log; `i` is its place, from 0.
-fn line_of<K: Notation>(
-    heap: Global,
-    i: usize,
-    r: &Record<K::Change>,
-) -> Result<String, AllocError> {
-    let number = i.saturating_add(1);
-    let change = K::show_change(heap, &r.change)?;
-    let fold = K::show_change(heap, &r.fold)?;
-    format!(in heap;
-        "\n  {number}: cell {}, next {}, skip {}, length {}, foot {}, change {change}, fold {fold}",
-        r.cell, r.next, r.skip, r.length, r.foot
-    )
 }

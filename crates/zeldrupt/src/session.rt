@@ -40,33 +40,6 @@ fn push_bytes(heap: Global, word: &str, bytes: &mut Vec<u8>) -> Result<(), Fault
     Ok(())
 }
 
-// A record's line of an item listing, numbered from 1.
-fn record_line(heap: Global, number: u32, r: &SavedRecord<'_>) -> Result<String, Fault> {
-    let change = hexadecimal::render(heap, r.change)?;
-    Ok(format!(in heap;
-        "\n  record {number}: next {}, cell {}, change {change}",
-        r.next, r.cell
-    )?)
-}
-
-// The items of a file after its header, a line each.
-fn push_items(heap: Global, items: &mut Items<'_>, text: &mut String) -> Result<(), Fault> {
-    for number in 1..u32::MAX {
-        match items.next_item() {
-            Ok(Item::Record(r)) => text.push_str(record_line(heap, number, &r)?.as_str())?,
-            Err(FileFault::Cell(n)) => {
-                text.push_str(format!(in heap; "\n  refused 15: record {n}")?.as_str())?;
-                break;
-            }
-            _ => {
-                text.push_str("\n  end")?;
-                break;
-            }
-        }
-    }
-    Ok(())
-}
-
 impl Session {
     pub fn new(heap: Global) -> Session {
         Session { heap, store: None }
@@ -109,17 +82,39 @@ impl Session {
         Ok(Answer::Text(hexadecimal::render(self.heap, bytes.as_slice())?))
     }
 
+    // The items of a file, a line each. The reader gives an end again and again, so the loop has a bound of its own, above any
+    // number of records.
     fn items(&self, rt: &HostRuntime, path: &str) -> Result<Answer, Fault> {
-        let heap = self.heap;
         let bytes = fs::read(rt, path)?;
         let mut items = Items::new(bytes.as_slice());
-        let mut text = match items.next_item()? {
-            Item::Header(h) => {
-                format!(in heap; "header {}, cells {}, count {}", h.letter, h.cells, h.count)?
+        let mut text = String::new(self.heap);
+        for number in 0..u32::MAX {
+            match items.next_item() {
+                Ok(Item::Header(h)) => {
+                    write!(
+                        text,
+                        "header {}, cells {}, count {}",
+                        h.letter, h.cells, h.count
+                    )?;
+                }
+                Ok(Item::Record(SavedRecord { next, cell, change })) => {
+                    let change = hexadecimal::render(self.heap, change)?;
+                    write!(
+                        text,
+                        "\n  record {number}: next {next}, cell {cell}, change {change}"
+                    )?;
+                }
+                Ok(Item::End) => {
+                    text.push_str("\n  end")?;
+                    break;
+                }
+                Err(FileFault::Cell(n)) => {
+                    write!(text, "\n  refused 15: record {n}")?;
+                    break;
+                }
+                Err(fault) => return Err(Fault::File(fault)),
             }
-            _ => String::new(heap),
-        };
-        push_items(heap, &mut items, &mut text)?;
+        }
         Ok(Answer::Text(text))
     }
 
@@ -169,6 +164,7 @@ impl Session {
                 moment,
                 area,
             } => self.recall(rt, path, cell, moment, area),
+            // a line for each kind: a trait of these commands would be one method that hands them on
             other => match self.store.as_mut().ok_or(Fault::Unformatted)? {
                 Store::Blocks(memory) => memory.answer(rt, other),
                 Store::Tallies(memory) => memory.answer(rt, other),
