@@ -1,23 +1,25 @@
 -- Records of a file taken in one after the other. Assumes nothing.
-use Rattle.std.proofs.Common.{◌≡◌, ℕ, zero, suc, ◌+◌, ◌<◌, ◌≤◌, cond, not, eqb, leb, List, length, get_or, set, is_err, IfOk, Ok, Err, Result, sym, refl, ap, ◌∙◌, inl, inr, true≢false, add-one, arith, length-set}
+use Rattle.std.proofs.Common.{◌≡◌, ℕ, zero, suc, ◌+◌, ◌<◌, cond, not, eqb, leb, List, length, get_or, set, is_err, IfOk, Some, None, Ok, Err, Option, Result, sym, refl, ap, ◌∙◌, inl, inr, true≢false, add-one, arith, length-set}
 use Rattle.std.proofs.lemmas.Result.{IfOk-at_ok}
 use Rattle.std.proofs.lemmas.Bool.{cases_lt}
-use Rattle.std.specs.Result.{result_map_both}
+use Rattle.std.specs.Iterator.{YieldsFirstBy, Yields}
+use Rattle.std.proofs.lemmas.Iterator.{YieldsList}
+use Rattle.std.proofs.lemmas.Iterator.Consumers.{YieldsList-at, YieldsList-turn, YieldsList-end}
 use Rattle.kind.specs.Answers.{and_then, refused_as, told, kept}
 use Rattle.kind.specs.Model.{Model}
 use Rattle.journal.specs.declared.record.Record.{Record}
-use Rattle.file.specs.declared.faults.FileFault.{FileFault}
 use Rattle.file.specs.declared.faults.FileFault.TheVariants.{Cell, Next}
 use Rattle.file.specs.declared.records.SavedRecord.{SavedRecord}
+use Rattle.file.specs.declared.saved.Records.{Records}
+use Rattle.file.specs.declared.saved.SavedFile.{SavedFile}
 use Rattle.file.specs.Changes.{change_read}
-use Rattle.file.specs.Header.{Whole, count_at}
-use Rattle.file.specs.Records.{parts_seen, record_at}
+use Rattle.file.specs.Records.{parts_of, parts_seen, record_bytes, numbered}
 use Rattle.file.specs.States.{saved}
-use Rattle.file.proofs.There.{records_there_lem}
+use Rattle.file.proofs.Numbered.{view, rest, records_give, turn_numbered, length_numbered}
 use Rattle.volume.specs.declared.refusal.Refusal.{Refusal}
 use Rattle.volume.specs.declared.refusal.Refusal.TheVariants.{File}
 use Rattle.volume.specs.Calls.{origin, emptied, logged}
-use Rattle.volume.specs.Loads.{entered, took, took_to, reached}
+use Rattle.volume.specs.Loads.{entered, took_parts, took, took_to, reached}
 use Rattle.volume.specs.Memory.{Memory, memory}
 use Rattle.volume.specs.Rolls.{acted}
 use Rattle.volume.proofs.Restores.{made_then, made_cond}
@@ -51,12 +53,6 @@ module _ {PS PC : Type 0} (K : Model PS PC) where
         made_cond (More m) (leb (length m.cells) p.cell) (Err (File (Cell n))) (cond other (Err (File (Next n))) (and_then read enter)) tt
         (made_cond (More m) other (Err (File (Next n))) (and_then read enter) tt
         (made_then (More m) read enter (λ g. more_entered m p.cell (K.plain_change g))))
-
-    -- record n is found in a file that has it
-    pub not_refused : (n w : ℕ) (r : Result SavedRecord FileFault) → w ≡ K.width → Whole K.width f → 1 ≤ n → n ≤ count_at f → result_map_both parts_seen (λ e. e) r ≡ record_at w f n → (e : FileFault) → r ≡ Err e → ⊥
-    not_refused n w r wide whole low high is e q =
-        let there : result_map_both parts_seen (λ e. e) r ≡ Ok (saved K f n) = is ∙ ap (λ x. record_at x f n) wide ∙ records_there_lem K.width f n whole low high in
-        true≢false (ap is_err (sym (ap (result_map_both parts_seen (λ e. e)) q) ∙ there))
 
     module _ (m : Memory PS PC) where
       reached_is : (n : ℕ) (w : Memory PS PC) → took_to K f m n ≡ Ok w → reached K f m n ≡ w
@@ -101,3 +97,19 @@ module _ {PS PC : Type 0} (K : Model PS PC) where
     all_in m b h n r blank answer after q =
         let t = told_ok b (took_to K f b n) (sym answer ∙ q) in
         ap (λ b. took_to K f b n) (sym blank) ∙ t ∙ ap Ok (sym (reached_is b n _ t) ∙ sym after)
+
+  -- a `for` over the records of a file of this kind: the one that is given is the next to be taken in, and after the last all are
+  module _ (file : SavedFile) (of_kind : file.width ≡ K.width) (s v : Records) (first : s.file ≡ file) (none : s.given ≡ 0) (begun : v ≡ s)
+      (xs : List (ℕ × SavedRecord)) (t : Records) (so_far : Yields (YieldsFirstBy view rest) v xs t) (r : Option (ℕ × SavedRecord)) (u : Records) where
+    road : YieldsList (YieldsFirstBy view rest) view v (numbered file.width file.bytes.now 0 file.header.count)
+    road = YieldsList-at begun (records_give file s first none)
+
+    pub given_turn : (x : ℕ × SavedRecord) → r ≡ Some x → YieldsFirstBy view rest t r u → (length xs < file.header.count) × ((w : Memory PS PC) → took_parts K w x.0 (parts_seen x.1) ≡ took K file.bytes.now w (length xs + 1))
+    given_turn x is step =
+        let i = length xs in
+        let f = file.bytes.now in
+        let e = turn_numbered file.width file.header.count i f (view x) (YieldsList-turn road xs t so_far r u x is step) in
+        (e.0, λ w. ap (λ n. took_parts K w n (parts_seen x.1)) e.1 ∙ ap (took_parts K w (i + 1)) (e.2 ∙ ap (λ d. parts_of (record_bytes d f (i + 1))) of_kind))
+
+    pub given_end : r ≡ None → YieldsFirstBy view rest t r u → length xs ≡ file.header.count
+    given_end is step = (YieldsList-end road xs t so_far r u is step).1 ∙ length_numbered file.width 0 file.header.count file.bytes.now

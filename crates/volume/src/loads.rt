@@ -1,10 +1,10 @@
 // Load: a volume is filled from a file.
+ghost use Rattle.std.specs.Result.{result_map_both};
 ghost use Rattle.std.specs.Prelude.{◌≡◌, ◌<◌, ◌≤◌, length, IfOk, OnOk};
 ghost use Rattle.kind.specs.Answers.{told, kept};
-ghost use Rattle.file.specs.Header.{Fits, Whole, count_at};
 ghost use Rattle.file.specs.Records.{parts_seen};
 ghost use Rattle.volume.specs.Calls.{emptied};
-ghost use Rattle.volume.specs.Loads.{entered, took_parts, took, took_to, reached, headed, filled, settled, left, loaded, load_leaves};
+ghost use Rattle.volume.specs.Loads.{entered, took_parts, took_to, reached, headed, filled, settled, left, loaded, load_leaves};
 ghost use Rattle.volume.specs.Memory.{held, KeepsLoans};
 ghost use Rattle.volume.specs.Reverts.{count_of};
 
@@ -13,8 +13,9 @@ use crate::refusal::Refusal;
 use crate::sizes::check_sizes;
 use file::changes::read_change_at;
 use file::faults::FileFault;
-use file::header::{Handed, Header, load_header};
-use file::records::{SavedRecord, record_at};
+use file::header::Handed;
+use file::records::SavedRecord;
+use file::saved::SavedFile;
 use kind::Kind;
 
 impl<K: Kind> Volume<'_, '_, '_, '_, K> {
@@ -53,50 +54,32 @@ impl<K: Kind> Volume<'_, '_, '_, '_, K> {
         self.enter(saved.cell, &change)
     }
 
-    // Takes in record `n` of a file that has it.
-    fn take_record(&mut self, file: &[u8], n: u32) -> Result<(), Refusal>
-        requires paired { length self.old.heads.now ≡ length self.old.cells.now }
-        requires low { self.old.count.now ≤ 65535 }
-        requires whole { Whole K.Kind.model.width file.now }
-        requires counted { 1 ≤ n }
-        requires there { n ≤ count_at file.now }
-        ensures answer { result ≡ told tt (took K.Kind.model file.now (held self.old) n) }
-        ensures after { held self.new ≡ kept (held self.old) (took K.Kind.model file.now (held self.old) n) }
-        ensures loans { KeepsLoans self.old self.new }
-    {
-        let saved = record_at(file, K::width(), n)?;
-        self.take_parts(saved, n)
-    }
-
-    // Takes in records 1 to `count`, up to the first that is refused. By the record's number, which the file and the faults have.
-    #[tactic(auto, using(crate::proofs::Loans::along, crate::proofs::Takes::takes_more, crate::proofs::Takes::takes_all))]
-    fn take_records(&mut self, file: &[u8], count: u32) -> Result<(), Refusal>
+    // Takes in the records of a file of this kind in order, up to the first that is refused.
+    fn take_records(&mut self, file: SavedFile<'_>) -> Result<(), Refusal>
         requires paired { length self.old.heads.now ≡ length self.old.cells.now }
         requires blank { self.old.count.now ≡ 0 }
-        requires whole { Whole K.Kind.model.width file.now }
-        requires there { count ≤ count_at file.now }
-        ensures answer { result ≡ told tt (took_to K.Kind.model file.now (held self.old) count) }
-        ensures after { held self.new ≡ reached K.Kind.model file.now (held self.old) count }
+        requires of_kind { file.width ≡ K.Kind.model.width }
+        ensures answer { result ≡ told tt (took_to K.Kind.model file.entry.bytes.now (held self.old) file.entry.header.count) }
+        ensures after { held self.new ≡ reached K.Kind.model file.entry.bytes.now (held self.old) file.entry.header.count }
         ensures loans { KeepsLoans self.old self.new }
     {
-        for i in 0..count {
-            self.take_record(file, i + 1)?;
+        for (n, saved) in file.records() {
+            self.take_parts(saved, n)?;
         }
         Ok(())
     }
 
-    // Empties the volume and takes in records 1 to `count`; a refused one leaves it empty.
-    fn refill(&mut self, file: &[u8], count: u32) -> Result<u32, Refusal>
+    // Empties the volume and takes in the records of a file of this kind; a refused one leaves it empty.
+    fn refill(&mut self, file: SavedFile<'_>) -> Result<u32, Refusal>
         requires paired { length self.old.heads.now ≡ length self.old.cells.now }
-        requires whole { Whole K.Kind.model.width file.now }
-        requires there { count ≤ count_at file.now }
-        ensures answer { result ≡ count_of (took_to K.Kind.model file.now (emptied K.Kind.model (held self.old)) count) }
-        ensures after { held self.new ≡ settled K.Kind.model (reached K.Kind.model file.now (emptied K.Kind.model (held self.old)) count) (took_to K.Kind.model file.now (emptied K.Kind.model (held self.old)) count) }
+        requires of_kind { file.width ≡ K.Kind.model.width }
+        ensures answer { result ≡ count_of (took_to K.Kind.model file.entry.bytes.now (emptied K.Kind.model (held self.old)) file.entry.header.count) }
+        ensures after { held self.new ≡ settled K.Kind.model (reached K.Kind.model file.entry.bytes.now (emptied K.Kind.model (held self.old)) file.entry.header.count) (took_to K.Kind.model file.entry.bytes.now (emptied K.Kind.model (held self.old)) file.entry.header.count) }
         ensures loans { KeepsLoans self.old self.new }
     {
         self.empty();
-        match self.take_records(file, count) {
-            Ok(_) => Ok(*self.count),
+        match self.take_records(file) {
+            Ok(()) => Ok(*self.count),
             Err(refusal) => {
                 self.empty();
                 Err(refusal)
@@ -104,17 +87,17 @@ impl<K: Kind> Volume<'_, '_, '_, '_, K> {
         }
     }
 
-    // The header of a file that goes into this memory.
-    fn check_header(&self, file: &[u8]) -> Result<Header, Refusal>
-        ensures answer { result ≡ headed K.Kind.model (held self.now) file.now }
-        ensures fits { IfOk result (λ h. Fits h K.Kind.model.width file.now) }
+    // The file, where its header goes with this memory.
+    fn open_file<'a>(&self, bytes: &'a [u8]) -> Result<SavedFile<'a>, Refusal>
+        ensures answer { result_map_both (λ s. s.header) (λ e. e) result ≡ headed K.Kind.model (held self.now) bytes.now }
+        ensures bytes { IfOk result (λ s. s.bytes ≡ bytes.entry) }
+        ensures of_kind { IfOk result (λ s. s.width ≡ K.Kind.model.width) }
         ensures paired { OnOk result (length self.now.heads.now ≡ length self.now.cells.now) }
     {
         let cells = self.cells.len();
         let room = self.records.len();
         check_sizes(cells, self.heads.len(), room)?;
-        let header = load_header::<K>(file, Handed { cells, room })?;
-        Ok(header)
+        Ok(SavedFile::open::<K>(bytes, Some(Handed { cells, room }))?)
     }
 
     // Fills the volume from a file of its kind, rebuilds the links and answers the count. Refusals 1 to 3 and 5 to 10 change
@@ -126,7 +109,6 @@ impl<K: Kind> Volume<'_, '_, '_, '_, K> {
         ensures after { held self.new ≡ load_leaves K.Kind.model (held self.old) file.now }
         ensures loans { KeepsLoans self.old self.new }
     {
-        let header = self.check_header(file)?;
-        self.refill(file, header.count)
+        self.refill(self.open_file(file)?)
     }
 }

@@ -17,19 +17,18 @@ take_records-requires g c =
           ap (λ m. length m.heads) blank ∙ length-replicate (length before.heads.now) 0 ∙ c.requires.paired
           ∙ sym (ap (λ m. length m.cells) blank ∙ length-replicate (length before.cells.now) (origin g.K.Kind.model));
       blank = ap (λ m. m.count) blank;
-      whole = c.requires.whole;
-      there = c.requires.there;
+      of_kind = c.requires.of_kind;
     }
 
 pub returns-in-Ok : goal.returns-in-Ok
 returns-in-Ok g c =
     let K = g.K.Kind.model in
-    let f = c.args.file.now in
+    let f = c.args.file.bytes.now in
     let m = held c.args.self.now in
     let t = c.take_records.ensures in
-    let all = all_in K f m (held c.empty.new.self) (held c.take_records.new.self) c.args.count c.take_records.result c.empty.ensures.after t.answer t.after c.in-Ok.is in
+    let all = all_in K f m (held c.empty.new.self) (held c.take_records.new.self) c.args.file.header.count c.take_records.result c.empty.ensures.after t.answer t.after c.in-Ok.is in
     record {
       answer = sym (ap count_of all);
-      after = sym (ap (settled K (reached K f (emptied K m) c.args.count)) all);
+      after = sym (ap (settled K (reached K f (emptied K m) c.args.file.header.count)) all);
       loans = along c.empty.ensures.loans t.loans;
     }
