@@ -59,7 +59,9 @@ FUNCTIONS = list(functions())
 plain = []
 for i, (at, line) in enumerate(SOURCE):
     if re.match(r"\s*(pub(\(crate\))? )?(enum|struct) ", line):
-        above = SOURCE[i - 1][1] if i else ""
+        above, j = "", i - 1
+        while j >= 0 and SOURCE[j][1].startswith("#["):
+            above, j = above + SOURCE[j][1], j - 1
         if not all(word in above for word in ("Debug", "PartialEq", "Eq")):
             plain.append(f"{at}: {line.strip()}")
 count("1", "types with no derived Debug, PartialEq and Eq", plain)
@@ -91,8 +93,9 @@ count("2", "constants that stand twice", grep(r"^(pub )?const \w+: \w+ = ", lamb
 count("2", "matches on the three kinds", grep(r"(BoardKind|Store)::(Block|Blocks)(\(\w+\))? =>|\"block\" =>|Some\(BoardKind::Block\) =>"))
 
 # 3
-count("3", "loops over a range of numbers", grep(r"\bfor \w+ in .*\.\."))
-count("3", "loops over items", grep(r"\bfor .* in ", lambda line: ".." not in line and "impl" not in line))
+COUNTED = r"\bfor [a-z]\w* in [^&\[]*\.\."
+count("3", "loops that count an index or a number", grep(COUNTED))
+count("3", "loops over items, or so many times", grep(r"^\s*for .* in ", lambda line: not re.search(COUNTED, line)))
 count("3", "while and loop", grep(r"\bwhile |\bloop \{"))
 
 # 4

@@ -24,13 +24,13 @@ pub enum FileFault {
     Cell(u32),
     #[error("refused {}: record {n} (not the record before)", self.number(), n = .0)]
     Next(u32),
-    #[error("refused {}: record {n} (no change of the kind)", self.number(), n = .0)]
+    #[error("refused {}: record {n} ({fault})", self.number(), n = .0, fault = .1)]
     Change(u32, KindFault),
 }
 
 // A kind's fault, at a record.
 #[derive(Clone, Copy, Debug, PartialEq, Eq, Error)]
-#[error("record {number} (no change of the kind)")]
+#[error("record {number} ({fault})")]
 pub struct AtRecord {
     pub number: u32,
     pub fault: KindFault,

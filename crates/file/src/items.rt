@@ -16,7 +16,7 @@ pub enum Item<'a> {
 }
 
 // A file, and how many of its items have been given.
-#[derive(Drop)]
+#[derive(Clone, Debug, Drop)]
 pub struct Items<'a> {
     file: &'a [u8],
     given: u32,

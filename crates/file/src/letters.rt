@@ -33,7 +33,8 @@ impl TryFrom<char> for BoardKind {
 }
 
 impl BoardKind {
-    // How many bytes a change of this kind has.
+    // How many bytes a change of this kind has. By cases, here and where else kinds are told apart: a kind is a type, and which one a
+    // file has is known only when it is read.
     pub fn width(self) -> usize
         ensures { result ≡ width_of self }
     {

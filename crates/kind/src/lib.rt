@@ -78,11 +78,12 @@ pub trait Kind {
     fn same_change(f: &Self::Change, g: &Self::Change) -> bool
         ensures { result ≡ model.same_change (model.change f.now) (model.change g.now) };
 
-    // Writes the form to the front of `out`; `out` stays as it is where it is too short.
+    // Writes the form to the front of `out`. False where `out` is too short; it then stays as it is. A bool, here and below, and no
+    // Result: clauses take it as a value.
     fn write_state(s: &Self::State, out: &mut [u8]) -> bool
         ensures { (result ≡ nat_le model.width (length out.old)) × (out.new ≡ (if result then model.state_form (model.state s.now) ++ drop model.width out.old else out.old)) };
 
-    // Writes the form to the front of `out`; `out` stays as it is where it is too short.
+    // Writes the form to the front of `out`. False where `out` is too short; it then stays as it is.
     fn write_change(f: &Self::Change, out: &mut [u8]) -> bool
         ensures { (result ≡ nat_le model.width (length out.old)) × (out.new ≡ (if result then model.change_form (model.change f.now) ++ drop model.width out.old else out.old)) };
 
