@@ -12,7 +12,7 @@ use crate::records::SavedRecord;
 use crate::saved::SavedFile;
 use kind::Kind;
 
-// What record `n` says of the cell: its change, or nothing where it is another cell's.
+// What record `n` says of the cell: its change, or nothing where it is another cell's. Five parameters that come together here alone.
 fn change_for<K: Kind>(
     saved: SavedRecord<'_>,
     cells: u16,

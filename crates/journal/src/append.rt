@@ -27,7 +27,7 @@ fn lone_record<C: Copy>(cell: u16, number: u32, next: u32, change: &C) -> Record
 }
 
 impl<'a, K: Kind> Chain<'a, K> {
-    // A record that reaches over p, which is record `next`, and over q, which p skips to.
+    // A record that reaches over p, which is record `next`, and over q, which p skips to: parts that come together here alone.
     #[inline(always)]
     fn joined_record(
         &self,

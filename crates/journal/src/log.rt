@@ -42,7 +42,7 @@ impl<'a, C: Copy> Log<'a, C> {
         }
     }
 
-    // The change of a cell from moment `a` to moment `b`, and the steps that were taken.
+    // The change of a cell from moment `a` to moment `b`, and the steps that were taken; for a caller that has numbers, and no chain.
     pub fn span<K: Kind<Change = C>>(
         &self,
         count: u32,
@@ -56,7 +56,7 @@ impl<'a, C: Copy> Log<'a, C> {
         self.chain::<K>(cell, head).span(count, a, b)
     }
 
-    // Record `number`, which logs the change of a cell with this head; it is not yet written.
+    // Record `number`, which logs the change of a cell with this head; it is not yet written. By numbers too.
     #[inline(always)]
     pub fn next_record<K: Kind<Change = C>>(
         &self,
