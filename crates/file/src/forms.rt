@@ -39,7 +39,8 @@ fn record_head(next: u32, cell: u16) -> [u8; 6]
     [n0, n1, n2, n3, c0, c1]
 }
 
-// Writes a record of these parts to the front of `out`; they come one by one, here and below, since no caller has them as one value. False, and nothing written, where `out` is shorter than that.
+// Writes a record of these parts to the front of `out`. False, and nothing written, where `out` is shorter than that. The parts come
+// one by one, here and below, since no caller has them as one value.
 pub fn write_record<K: Kind>(next: u32, cell: u16, change: &K::Change, out: &mut [u8]) -> bool
     ensures done { result ≡ nat_le (6 + K.Kind.model.width) (length out.old) }
     ensures area { out.new ≡ (if result then record_form K.Kind.model (record { next = next; cell = cell; change = K.Kind.model.change change.now }) ++ drop (6 + K.Kind.model.width) out.old else out.old) }
