@@ -1,5 +1,5 @@
 // Roll: an image, moved from one moment to another.
-ghost use Rattle.std.specs.Prelude.{◌≡◌, ◌<◌, map, length, slice_index_or, slice_set};
+ghost use Rattle.std.specs.Prelude.{◌≡◌, ◌<◌, map, length, slice_index_or};
 ghost use Rattle.std.specs.List.{range_with_len};
 ghost use Rattle.kind.specs.Answers.{each_below, told, kept};
 ghost use Rattle.volume.specs.Calls.{origin};
