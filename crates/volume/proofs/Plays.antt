@@ -12,18 +12,14 @@ use Rattle.journal.specs.Links.{place_of, blank, numbered}
 use Rattle.volume.specs.Replays.{cell_known, played, played_to}
 
 module _ {PS PC : Type 0} (K : Model PS PC) (rs : List (Record PC)) (i : ℕ) where
-  -- what is read at the place of record i + 1
-  pub read_at : (place : ℕ) (r : Record PC) → i < length rs → place ≡ place_of (i + 1) → r ≡ get_or rs place r → r ≡ numbered K rs (i + 1)
-  read_at place r l p e =
-      let low : place < length rs = omega arith in
-      e ∙ get_or_default rs place r (blank K) low ∙ ap (λ k. get_or rs k (blank K)) p
-
-  -- .. and what a walk along the first `moment` records is at
+  -- a walk along the first `moment` records is at record i + 1
   pub item_at : (moment : ℕ) (r : Record PC) → moment ≤ length rs → i < length (take moment rs) → r ≡ get_or (take moment rs) i r → r ≡ numbered K rs (i + 1)
   item_at moment r l h e =
       let long = length-take-le moment rs l in
       let low : i < moment = omega arith in
-      read_at i r (omega arith) (omega arith) (e ∙ get_or-take moment rs i r low)
+      let there : i < length rs = omega arith in
+      let place : i ≡ place_of (i + 1) = omega arith in
+      e ∙ get_or-take moment rs i r low ∙ get_or_default rs i r (blank K) there ∙ ap (λ k. get_or rs k (blank K)) place
 
   -- .. is of no cell, or of one: r is that record
   module _ (cells : ℕ) (r : Record PC) (before : each_below (cell_known K cells rs) i ≡ Ok tt) (is : r ≡ numbered K rs (i + 1)) where
