@@ -25,7 +25,7 @@ impl<K: Kind> Tested<'_, K> {
         Ok(())
     }
 
-    // The state of cell `i`, acted on with its span; no fault comes where every cell was tried.
+    // Acts on `state`, which is that of cell `i`, with the span of the cell; no fault comes where every cell was tried.
     fn sweep_cell(&self, state: &mut K::State, i: usize, a: u32, b: u32)
         requires { i < length self.now.cells.now }
         ensures { state.new ≡ swept K.Kind.model (across K.Kind.model (seen self.now) a b i) state.old }
