@@ -1,27 +1,37 @@
 -- Records played one after the other, each of which was tried. Assumes nothing.
-use Rattle.std.proofs.Common.{◌≡◌, ℕ, ◌+◌, ◌<◌, ◌≤◌, List, length, take, get_or, Ok, sym, ap, ◌∙◌, add-one, arith, length-take-le}
+use Rattle.std.proofs.Common.{◌≡◌, ℕ, ◌+◌, ◌<◌, ◌≤◌, leb, List, length, take, get_or, Ok, Err, sym, ap, ◌∙◌, add-one, arith, length-take-le}
 use Rattle.std.proofs.lemmas.List.{get_or_default, get_or-take}
 use Rattle.std.proofs.lemmas.Bool.Decides.{nat_tests}
-use Rattle.kind.specs.Answers.{each_below}
+use Rattle.std.proofs.lemmas.Bool.{le-leb, lt-leb}
+use Rattle.kind.specs.Answers.{each_below, refuse_if}
 use Rattle.kind.specs.Model.{Model}
-use Rattle.kind.proofs.Tried.{each_at}
+use Rattle.kind.proofs.Tried.{each_at, each_more, each_stops}
+use Rattle.journal.specs.declared.faults.LadderFault.TheVariants.{Cell}
 use Rattle.journal.specs.declared.record.Record.{Record}
 use Rattle.journal.specs.Links.{place_of, blank, numbered}
 use Rattle.volume.specs.Replays.{cell_known, played, played_to}
 
 module _ {PS PC : Type 0} (K : Model PS PC) (rs : List (Record PC)) (i : ℕ) where
-  -- what is read at the place of record i + 1
-  pub read_at : (place : ℕ) (r : Record PC) → i < length rs → place ≡ place_of (i + 1) → r ≡ get_or rs place r → r ≡ numbered K rs (i + 1)
-  read_at place r l p e =
-      let low : place < length rs = omega arith in
-      e ∙ get_or_default rs place r (blank K) low ∙ ap (λ k. get_or rs k (blank K)) p
-
-  -- .. and what a walk along the first `moment` records is at
+  -- a walk along the first `moment` records is at record i + 1
   pub item_at : (moment : ℕ) (r : Record PC) → moment ≤ length rs → i < length (take moment rs) → r ≡ get_or (take moment rs) i r → r ≡ numbered K rs (i + 1)
   item_at moment r l h e =
       let long = length-take-le moment rs l in
       let low : i < moment = omega arith in
-      read_at i r (omega arith) (omega arith) (e ∙ get_or-take moment rs i r low)
+      let there : i < length rs = omega arith in
+      let place : i ≡ place_of (i + 1) = omega arith in
+      e ∙ get_or-take moment rs i r low ∙ get_or_default rs i r (blank K) there ∙ ap (λ k. get_or rs k (blank K)) place
+
+  -- .. is of no cell, or of one: r is that record
+  module _ (cells : ℕ) (r : Record PC) (before : each_below (cell_known K cells rs) i ≡ Ok tt) (is : r ≡ numbered K rs (i + 1)) where
+    pub known_stop : (moment : ℕ) → i < moment → cells ≤ r.cell → Err (Cell (i + 1)) ≡ each_below (cell_known K cells rs) moment
+    known_stop moment l h =
+        let out = ap (leb cells) (ap (λ x. x.cell) (sym is)) ∙ le-leb cells r.cell h in
+        sym (each_stops (cell_known K cells rs) moment i (Cell (i + 1)) l before (ap (λ b. refuse_if b (Cell (i + 1)) (Ok tt)) out))
+
+    pub known_more : r.cell < cells → each_below (cell_known K cells rs) (i + 1) ≡ Ok tt
+    known_more h =
+        let low = ap (leb cells) (ap (λ x. x.cell) (sym is)) ∙ lt-leb cells r.cell h in
+        ap (each_below (cell_known K cells rs)) (add-one i) ∙ each_more (cell_known K cells rs) i tt before (ap (λ b. refuse_if b (Cell (i + 1)) (Ok tt)) low)
 
   known_low : (cells : ℕ) → cell_known K cells rs i ≡ Ok tt → (numbered K rs (i + 1)).cell < cells
   known_low cells e = grind (arith, nat_tests)

@@ -37,13 +37,13 @@ fn is_like<K: Kind>(r: &Record<K::Change>, planned: &Record<K::Change>) -> bool
         && K::same_change(&r.fold, &planned.fold)
 }
 
-// The lowest cell whose head is not its newest record. By the cell's number, which the fault names.
+// The lowest cell whose head is not its newest record.
 fn check_heads<K: Kind>(heads: &[u32], newest: &[u32]) -> Result<(), Wrong>
     requires { (length heads.now ≡ length newest.now) × (length heads.now ≤ 4096) }
     ensures { result ≡ each_below (head_right K.Kind.model newest.now heads.now) (length heads.now) }
 {
-    for i in 0..heads.len() {
-        if heads[i] != newest[i] {
+    for (i, (head, last)) in heads.iter().zip(newest).enumerate() {
+        if head != last {
             return Err(Wrong::Head(i as u32));
         }
     }

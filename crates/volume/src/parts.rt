@@ -8,13 +8,13 @@ use journal::log::Log;
 use journal::record::Record;
 use kind::Kind;
 
-// Sets each element. By an index, since `fill` asks that cloning an element never fails, which no law of a kind says.
+// Sets each element. Not by `fill`, which asks that cloning an element never fails, which no law of a kind says.
 #[tactic(auto, using(crate::proofs::Fills::filling_more, crate::proofs::Fills::filling_all))]
 pub(crate) fn fill_with<T: Copy>(slice: &mut [T], value: T)
     ensures { slice.new ≡ replicate (length slice.old) value }
 {
-    for i in 0..slice.len() {
-        slice[i] = value;
+    for x in slice.iter_mut() {
+        *x = value;
     }
 }
 

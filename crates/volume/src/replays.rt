@@ -1,5 +1,5 @@
 // Replay: an image made from the records up to a moment.
-ghost use Rattle.std.specs.Prelude.{◌≡◌, ◌-◌, ◌^◌, ◌<◌, ◌≤◌, length, Ok};
+ghost use Rattle.std.specs.Prelude.{◌≡◌, ◌<◌, ◌≤◌, length, Ok};
 ghost use Rattle.kind.specs.Answers.{each_below, told, kept};
 ghost use Rattle.volume.specs.Memory.{held};
 ghost use Rattle.volume.specs.Replays.{cell_known, played, played_to, remade, replayed};
@@ -8,27 +8,10 @@ use crate::Volume;
 use crate::parts::fill_with;
 use crate::refusal::Refusal;
 use journal::faults::LadderFault;
-use journal::record::{Record, cell_of, place_of};
+use journal::record::{Record, cell_of};
 use kind::Kind;
 
-// Whether record `i` + 1 is of one of the cells.
-fn try_record<K: Kind>(
-    records: &[Record<K::Change>],
-    cells: usize,
-    i: u32,
-) -> Result<(), LadderFault>
-    requires { (i < length records.now) × (i < 2 ^ 32 - 1) }
-    ensures { result ≡ cell_known K.Kind.model cells records.now i }
-{
-    let number = i + 1;
-    if cell_of(&records[place_of(number as usize)]) as usize >= cells {
-        return Err(LadderFault::Cell { record: number });
-    }
-    Ok(())
-}
-
-// Tries records 1 to `moment`; the lowest that is of no cell is the fault. By the record's number, which the fault names.
-#[tactic(auto, using(crate::proofs::Tries::tries_stop, crate::proofs::Tries::tries_more, crate::proofs::Tries::tries_all))]
+// Tries records 1 to `moment`; the lowest that is of no cell is the fault.
 pub(crate) fn try_records<K: Kind>(
     records: &[Record<K::Change>],
     cells: usize,
@@ -37,8 +20,12 @@ pub(crate) fn try_records<K: Kind>(
     requires { moment ≤ length records.now }
     ensures { result ≡ each_below (cell_known K.Kind.model cells records.now) moment }
 {
-    for i in 0..moment {
-        try_record::<K>(records, cells, i)?;
+    for (i, r) in records[..moment as usize].iter().enumerate() {
+        if cell_of(r) as usize >= cells {
+            return Err(LadderFault::Cell {
+                record: i as u32 + 1,
+            });
+        }
     }
     Ok(())
 }

@@ -1,5 +1,5 @@
 // Roll: an image, moved from one moment to another.
-ghost use Rattle.std.specs.Prelude.{◌≡◌, ◌<◌, map, length, slice_index_or, slice_set};
+ghost use Rattle.std.specs.Prelude.{◌≡◌, ◌<◌, map, length, slice_index_or};
 ghost use Rattle.std.specs.List.{range_with_len};
 ghost use Rattle.kind.specs.Answers.{each_below, told, kept};
 ghost use Rattle.volume.specs.Calls.{origin};
@@ -25,24 +25,24 @@ impl<K: Kind> Tested<'_, K> {
         Ok(())
     }
 
-    // Acts on the state of cell `i` with its span; no fault comes where every cell was tried.
-    fn sweep_cell(&self, image: &mut [K::State], i: usize, a: u32, b: u32)
-        requires { (i < length image.old) × (i < length self.now.cells.now) }
-        ensures { image.new ≡ slice_set image.old i (swept K.Kind.model (across K.Kind.model (seen self.now) a b i) (slice_index_or image.old i (origin K.Kind.model))) }
+    // Acts on `state`, which is that of cell `i`, with the span of the cell; no fault comes where every cell was tried.
+    fn sweep_cell(&self, state: &mut K::State, i: usize, a: u32, b: u32)
+        requires { i < length self.now.cells.now }
+        ensures { state.new ≡ swept K.Kind.model (across K.Kind.model (seen self.now) a b i) state.old }
     {
         if let Ok(found) = self.cell_span(i, a, b) {
-            image[i] = K::act(&found.change, &image[i]);
+            *state = K::act(&found.change, state);
         }
     }
 
-    // Acts on each state with its cell's span. By the cell's number, which its head and its links have.
+    // Acts on each state with its cell's span.
     #[tactic(auto, using(crate::proofs::Sweeps::swept_more))]
     fn sweep(&self, image: &mut [K::State], a: u32, b: u32)
         requires { length image.old ≡ length self.now.cells.now }
         ensures { image.new ≡ map (λ c. swept K.Kind.model (across K.Kind.model (seen self.now) a b c) (slice_index_or image.old c (origin K.Kind.model))) (range_with_len 0 (length image.old)) }
     {
-        for i in 0..image.len() {
-            self.sweep_cell(image, i, a, b);
+        for (i, state) in image.iter_mut().enumerate() {
+            self.sweep_cell(state, i, a, b);
         }
     }
 }

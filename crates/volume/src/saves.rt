@@ -12,7 +12,7 @@ use crate::refusal::Refusal;
 use crate::replays::try_records;
 use file::forms::{write_header, write_record_at};
 use file::records::file_length;
-use journal::record::{Record, cell_of, place_of};
+use journal::record::{Record, cell_of};
 use kind::Kind;
 
 // Writes one record to its place as record `n` of the file.
@@ -23,7 +23,7 @@ fn put_record<K: Kind>(r: &Record<K::Change>, n: u32, area: &mut [u8])
     let _ = write_record_at::<K>(n, r.next, cell_of(r), &r.change, area);
 }
 
-// Writes the header and then the first `count` records. By the record's number, which is its place in the file.
+// Writes the header and then the first `count` records.
 fn put_file<K: Kind>(cells: u16, records: &[Record<K::Change>], count: u32, area: &mut [u8])
     requires there { count ≤ length records.now }
     requires few { count ≤ 65535 }
@@ -31,8 +31,8 @@ fn put_file<K: Kind>(cells: u16, records: &[Record<K::Change>], count: u32, area
     ensures { area.new ≡ written K.Kind.model cells count (lines_of K.Kind.model records.now count) area.old }
 {
     let _ = write_header(K::LETTER, cells, count, area);
-    for i in 0..count {
-        put_record::<K>(&records[place_of(i as usize + 1)], i + 1, area);
+    for (i, r) in records[..count as usize].iter().enumerate() {
+        put_record::<K>(r, i as u32 + 1, area);
     }
 }
 

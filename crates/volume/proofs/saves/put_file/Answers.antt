@@ -1,20 +1,23 @@
-use Rattle.std.proofs.Common.{◌≡◌, length, ap, ◌∙◌, arith}
+use Rattle.std.proofs.Common.{◌≡◌, length, ap, ◌∙◌, arith, length-take-le}
 use Rattle.file.specs.Forms.{written}
 use Rattle.volume.specs.Saves.{lines_of}
 use Rattle.volume.proofs.Laid.{record_fits, header_put, laid_more, laid_behind}
-use Rattle.volume.proofs.Plays.{read_at}
+use Rattle.volume.proofs.Plays.{item_at}
 use Rattle.volume.proofs.saves.put_file.Goals as goal
 
 pub put_record-requires : goal.put_record-requires
-put_record-requires g c = record_fits g.K.Kind.model.width c.args.count c.loop-i.i (length c.loop-i.area) c.loop-i-test.true (omega arith)
+put_record-requires g c =
+    let long = length-take-le c.args.count c.args.records.now c.requires.there in
+    record_fits g.K.Kind.model.width c.args.count c.loop-i.i (length c.loop-i.area) (omega (arith, long, c.loop-i-test.true)) (omega arith)
 
 pub loop-i-preserved : goal.loop-i-preserved
 loop-i-preserved g c =
     let K = g.K.Kind.model in
     let rs = c.args.records.now in
-    let r = c.index-records-place_of.result in
-    let is = read_at K rs c.loop-i.i c.place_of.result r (omega arith) c.place_of.ensures c.index-records-place_of.is in
-    laid_more K g.K.Kind.laws rs c.args.cells c.args.count c.loop-i.i c.loop-i.area c.put_record.new.area c.write_header.new.out r (omega arith) is c.loop-i.invariant c.put_record.ensures
+    let r = c.r-item.result in
+    let long = length-take-le c.args.count rs c.requires.there in
+    let is = item_at K rs c.loop-i.i c.args.count r c.requires.there c.loop-i-test.true c.r-item.is in
+    laid_more K g.K.Kind.laws rs c.args.cells c.args.count c.loop-i.i c.loop-i.area c.put_record.new.area c.write_header.new.out r (omega (arith, long, c.loop-i-test.true, c.requires.there)) is c.loop-i.invariant c.put_record.ensures
 
 pub returns : goal.returns
 returns g c =
@@ -22,6 +25,7 @@ returns g c =
     let laws = g.K.Kind.laws in
     let rs = c.args.records.now in
     let out = c.write_header.new.out in
-    let all : c.loop-i.i ≡ c.args.count = omega arith in
+    let long = length-take-le c.args.count rs c.requires.there in
+    let all : c.loop-i.i ≡ c.args.count = omega (arith, long) in
     let head = header_put K laws c.args.cells c.args.count c.LETTER.result c.write_header.result c.args.area.now out (c.LETTER.ensures ∙ g.met.K.Kind.letter_is) (omega arith) c.write_header.ensures.done c.write_header.ensures.area in
     c.loop-i.invariant ∙ ap (λ n. written K c.args.cells c.args.count (lines_of K rs n) out) all ∙ laid_behind K laws rs c.args.cells c.args.count c.args.count out c.args.area.now head
