@@ -46,7 +46,7 @@ impl From<AtRecord> for FileFault {
 }
 
 impl FileFault {
-    // The number by which the refusal goes.
+    // The number by which documents, scripts and C know the refusal.
     pub fn number(self) -> u8
         ensures { result ≡ fault_number self }
     {

@@ -30,7 +30,8 @@ impl<'a> Items<'a> {
         Items { file, given: 0 }
     }
 
-    // The header, then each record, then the end; or a refusal. An end or a refusal is given again.
+    // The header, then each record, then the end; or a refusal. An end or a refusal is given again, so this is no iterator, and the file
+    // is opened anew each time, since `new` refuses none.
     pub fn next_item(&mut self) -> Result<Item<'a>, FileFault>
         ensures item { seen result ≡ item self.old.file.now self.old.given }
         ensures place { Borrowed self.old.file self.old.given result }

@@ -16,7 +16,7 @@ pub enum BoardKind {
     BankMap,
 }
 
-// The kind whose files begin with this letter, or refusal 6: nothing else decides by a letter.
+// The kind whose files begin with this letter, or refusal 6. Beside it, a kind's own reader compares with that kind's letter.
 impl TryFrom<char> for BoardKind {
     type Error = FileFault;
 

@@ -18,7 +18,7 @@ use volume::Volume;
 
 // Makes each of the ten calls once, in the order in which the first clause names them, refused or not: the state is written from its place and
 // read back to it, the image is rolled and then replayed, and what was saved to the area is loaded from it. The owner's parts are then what
-// the calls, by their definitions, make of them.
+// the calls, by their definitions, make of them. The parts come one by one, as they are lent.
 pub fn make_all_calls<K: Kind>(
     cells: &mut [K::State],
     heads: &mut [u32],

@@ -70,8 +70,8 @@ impl<'a, C: Copy> Log<'a, C> {
         self.chain::<K>(cell, head).next_record(number, change)
     }
 
-    // Lays `r` down as record `count` + 1, and answers whether it fits; where it does not, nothing changes. The only writing of a
-    // record. A `bool`, no plainer as an error: whether it fits is a value that clauses name.
+    // Lays `r` down as record `count` + 1, and answers whether it fits; where it does not, nothing changes. In this crate and in
+    // `volume` nothing else writes a record. A `bool`, no plainer as an error: whether it fits is a value that clauses name.
     #[inline(always)]
     pub fn append(&mut self, count: u32, r: Record<C>) -> bool
         ensures answer { result ≡ nat_lt count (length self.old.records.now) }

@@ -19,14 +19,14 @@ pub struct Record<C> {
     pub fold: C,
 }
 
-// The place of record `number` in the log. The only rule of where a record lies.
+// The place of record `number` in the log: records lie in the order of their numbers, from the first place on.
 pub fn place_of(number: usize) -> usize
     ensures { result ≡ place_of number }
 {
     number.saturating_sub(1)
 }
 
-// The cell that a record belongs to. The only reading of the field.
+// The cell that a record belongs to. In this crate and in `volume` nothing else reads the field.
 pub fn cell_of<C>(r: &Record<C>) -> u16
     ensures { result ≡ r.now.cell }
 {

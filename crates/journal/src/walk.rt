@@ -121,7 +121,8 @@ impl<'a, K: Kind> Chain<'a, K> {
         })
     }
 
-    // From record `start` down to zero or a record not above `end`.
+    // From record `start` down to zero or a record not above `end`. By `while`, as `descend`: where the next record lies only the record
+    // itself says.
     #[tactic(auto, using(crate::proofs::Walks::reach_done, crate::proofs::Walks::reach_fault, crate::proofs::Walks::reach_step))]
     fn walk(&self, start: u32, end: u32) -> Result<Walked<K::Change>, LadderFault>
         requires { start ≤ length self.now.records.now }
@@ -139,7 +140,8 @@ impl<'a, K: Kind> Chain<'a, K> {
         Ok(at)
     }
 
-    // Where a walk from record `start` down to `end` stops. Beside `walk`, since it composes no changes, which costs the most.
+    // Where a walk from record `start` down to `end` stops. Beside `walk`, since what a span's first walk takes is not used, and composing
+    // it is most of a walk's work.
     #[tactic(auto, using(crate::proofs::Walks::reach_done, crate::proofs::Walks::stops_on, crate::proofs::Walks::stops_fault))]
     fn descend(&self, start: u32, end: u32) -> Result<Stop, LadderFault>
         requires { start ≤ length self.now.records.now }

@@ -62,7 +62,7 @@ impl<'a> Words<'a> {
         Ok(n)
     }
 
-    // A word, and nothing after it.
+    // A word, and nothing after it. It and the next three are no plainer as one function over a reader: each has its definition.
     pub(crate) fn only_word(mut self) -> Result<&'a str, ScriptError>
         ensures { result_map_both (λ w. w.now) (λ e. e) result ≡ only_word self.entry }
     {

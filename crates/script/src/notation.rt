@@ -36,16 +36,16 @@ pub trait Notation: Kind {
 
     ghost reads_change: { List ℕ → Result Self.Change ScriptError → Type 0 };
 
-    // the error of a word that is read as none
-    ghost misread: { ScriptError };
+    // the errors of a word that is read as none
+    ghost misread: { ScriptError → Type 0 };
 
     fn parse_state(word: &str) -> Result<Self::State, ScriptError>
         ensures read { reads_state word.now result }
-        ensures refused { IfErr result (λ e. e ≡ misread) };
+        ensures refused { IfErr result misread };
 
     fn parse_change(word: &str) -> Result<Self::Change, ScriptError>
         ensures read { reads_change word.now result }
-        ensures refused { IfErr result (λ e. e ≡ misread) };
+        ensures refused { IfErr result misread };
 
     // plain values of zero bytes alone
     ghost state_of_zeros: { Self.State };
@@ -114,7 +114,7 @@ impl Notation for Block {
 
     ghost reads_change = { ReadsHex 128 };
 
-    ghost misread = { Hex };
+    ghost misread = { λ e. e ≡ Hex };
 
     fn parse_state(word: &str) -> Result<[u8; 128], ScriptError> {
         plain_bytes(word)
@@ -154,7 +154,7 @@ impl Notation for Tally {
 
     ghost reads_change = { ParsesSigned w32 10 };
 
-    ghost misread = { Number };
+    ghost misread = { λ e. e ≡ Number };
 
     fn parse_state(word: &str) -> Result<i32, ScriptError> {
         arguments::signed(word)
@@ -194,7 +194,7 @@ impl Notation for BankMap {
 
     ghost reads_change = { ReadsHex 16 };
 
-    ghost misread = { Hex };
+    ghost misread = { λ e. e ≡ Hex };
 
     fn parse_state(word: &str) -> Result<[u8; 16], ScriptError> {
         plain_bytes(word)

@@ -92,6 +92,7 @@ impl<K: Kind> Volume<'_, '_, '_, '_, K> {
     }
 
     // Puts the change of a cell from moment `a` to moment `b` into `place` and answers the steps that it took. Refusals 1 to 4, 13, 14, 18.
+    // Two moments and no interval, since either may be the later one; the place is the caller's.
     #[tactic(auto, unfolding(crate::specs::Calls::change_between))]
     #[inline(always)]
     pub fn span(&self, cell: u32, a: u32, b: u32, place: &mut K::Change) -> Result<u32, Refusal>

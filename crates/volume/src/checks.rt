@@ -68,7 +68,8 @@ impl<K: Kind> Tested<'_, K> {
             .is_ok_and(|planned| is_like::<K>(r, &planned))
     }
 
-    // Whether record `number` is right, `work` having each cell's newest record before it; if so, `work` takes it in.
+    // Whether record `number` is right, `work` having each cell's newest record before it; if so, `work` takes it in. A bool and no
+    // Result: the clause on `work` takes it as a value.
     fn take_in(&self, number: u32, work: &mut [u32]) -> bool
         requires { (0 < number) × (number ≤ length self.now.records.now) }
         ensures answer { result ≡ right_record K.Kind.model (length work.old) self.now.records.now work.old number (numbered K.Kind.model self.now.records.now number) }
@@ -86,8 +87,8 @@ impl<K: Kind> Tested<'_, K> {
         true
     }
 
-    // The lowest wrong record; `work` gets each cell's newest record among those before it. By the record's number, which the fault
-    // names.
+    // The lowest wrong record; `work` gets each cell's newest record among those before it. By the record's number: the record is held
+    // against all below it.
     fn check_records(&self, work: &mut [u32]) -> Result<(), Wrong>
         requires { self.now.count ≤ length self.now.records.now }
         ensures answer { result ≡ each_below (record_right K.Kind.model (length work.old) self.now.records.now) self.now.count }

@@ -69,7 +69,8 @@ impl<K: Kind> Volume<'_, '_, '_, '_, K> {
         Ok(())
     }
 
-    // Empties the volume and takes in the records of a file of this kind; a refused one leaves it empty.
+    // Empties the volume and takes in the records of a file of this kind; a refused one leaves it empty. By cases, since in both something
+    // is done.
     fn refill(&mut self, file: SavedFile<'_>) -> Result<u32, Refusal>
         requires paired { length self.old.heads.now ≡ length self.old.cells.now }
         requires of_kind { file.width ≡ K.Kind.model.width }

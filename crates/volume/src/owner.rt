@@ -9,7 +9,8 @@ use journal::record::Record;
 use kind::tally::Tally;
 
 // Writes `first` and then `second` to a cell of tallies, refused or not. The owner's four parts then hold what the two writes, by
-// their definition, make of them. Of tallies, since cells and heads are both numbers there, and could be taken for one another.
+// their definition, make of them. Of tallies, since cells and heads are both numbers there, and could be taken
+// for one another. The parts come one by one, as they are lent.
 pub fn write_two(
     cells: &mut [i32],
     heads: &mut [u32],

@@ -18,8 +18,8 @@ pub(crate) fn fill_with<T: Copy>(slice: &mut [T], value: T)
     }
 }
 
-// Logs a change as the record after `count` of them. Over the records alone, since no log is made over a part of a volume that is
-// lent to a method.
+// Logs a change as the record after `count` of them. Over the records alone: a method that makes a log over a field knows nothing of
+// that field afterwards.
 #[inline(always)]
 #[tactic(auto, unfolding(crate::specs::Calls::logged))]
 pub(crate) fn log_change<K: Kind>(

@@ -14,8 +14,8 @@ use kind::bank_map::BankMap;
 use kind::block::Block;
 use kind::tally::Tally;
 
-// Writes the form of a cell's state at a moment to the front of `out`. Only records up to that moment are looked at. Refusals
-// 5 to 11, 13 to 17.
+// Writes the form of a cell's state at a moment to the front of `out`. Only records up to that moment are looked at; the
+// header is read once more with them. Refusals 5 to 11, 13 to 17.
 #[tactic(auto, unfolding(crate::specs::Recalls::recalled))]
 pub fn recall<K: Kind>(file: &[u8], cell: u32, moment: u32, out: &mut [u8]) -> Result<(), Refusal>
     ensures answer { result ≡ told tt (recalled K.Kind.model file.now cell moment (length out.old)) }

@@ -19,7 +19,7 @@ pub(crate) struct Tested<'v, K: Kind> {
 }
 
 impl<K: Kind> Volume<'_, '_, '_, '_, K> {
-    // The volume, to be read.
+    // The volume, to be read. It asks for the sizes and does not test them: a call tests them first among its own refusals.
     #[inline(always)]
     pub(crate) fn view(&self) -> Tested<'_, K>
         requires few { length self.now.cells.now ≤ 4096 }

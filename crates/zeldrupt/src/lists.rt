@@ -2,7 +2,7 @@
 use std::alloc::{AllocError, Global};
 
 // Each item as `show` writes it, or none.
-pub fn list<T, F: Fn(&T) -> Result<String, AllocError>>(
+pub(crate) fn list<T, F: Fn(&T) -> Result<String, AllocError>>(
     heap: Global,
     row: &[T],
     show: F,

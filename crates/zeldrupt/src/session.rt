@@ -108,8 +108,8 @@ impl Session {
                     text.push_str("\n  end")?;
                     break;
                 }
-                Err(FileFault::Cell(n)) => {
-                    write!(text, "\n  refused 15: record {n}")?;
+                Err(fault @ FileFault::Cell(n)) => {
+                    write!(text, "\n  refused {}: record {n}", fault.number())?;
                     break;
                 }
                 Err(fault) => return Err(Fault::File(fault)),
@@ -118,7 +118,7 @@ impl Session {
         Ok(Answer::Text(text))
     }
 
-    // The form of a cell's state at a moment, from a file of the kind that its letter names.
+    // The form of a cell's state at a moment, from a file of the kind that its letter names. Its parameters are the command's own.
     fn recall(
         &self,
         rt: &HostRuntime,
