@@ -158,6 +158,7 @@ impl<'a, K: Kind> Chain<'a, K> {
     }
 
     // The changes after moment `low` up to moment `high`: from the head to `high`, then on to `low`.
+    #[inline(always)]
     fn climb(&self, count: u32, low: u32, high: u32) -> Result<Stretch<K::Change>, LadderFault>
         ensures { result ≡ ascent K.Kind.model self.now.records.now count self.now.head self.now.cell low high }
     {
@@ -172,6 +173,7 @@ impl<'a, K: Kind> Chain<'a, K> {
     }
 
     // The change of a cell from moment `a` to moment `b`, and the steps that were taken; backwards it is the inverse.
+    #[inline(always)]
     pub fn span(&self, count: u32, a: u32, b: u32) -> Result<Stretch<K::Change>, LadderFault>
         ensures { result ≡ spanned K.Kind.model self.now.records.now count self.now.head self.now.cell a b }
     {
