@@ -10,7 +10,7 @@ use file::records::SavedRecord;
 use kind::bank_map::BankMap;
 use kind::block::Block;
 use kind::tally::Tally;
-use script::command::{Command, parse};
+use script::command::{Command, Spoken};
 use script::hexadecimal;
 use script::line::Words;
 use script::notation::Notation;
@@ -136,9 +136,9 @@ impl Session {
         Ok(Answer::Form(hexadecimal::render(self.heap, out.as_slice())?))
     }
 
-    // What the command of a line answers; a line with no word has none.
-    pub fn answer(&mut self, rt: &HostRuntime, line: &str) -> Result<Answer, Fault> {
-        match parse(line)? {
+    // What a command answers.
+    pub fn answer(&mut self, rt: &HostRuntime, command: Spoken<'_>) -> Result<Answer, Fault> {
+        match command {
             Command::Format {
                 kind,
                 cells,
