@@ -14,10 +14,11 @@ fn is_digit(b: u8) -> bool
     matches!(b, b'0'..=b'9' | b'a'..=b'f')
 }
 
+// Not by `all`: a way out at the first other byte makes text that is right, the most there is, twice as dear.
 fn all_digits(text: &[u8]) -> bool
     ensures { result ≡ digits? text.now }
 {
-    text.iter().all(|b| is_digit(*b))
+    text.iter().fold(true, |all, b| all & is_digit(*b))
 }
 
 // The value of a digit.
