@@ -25,10 +25,10 @@ told w t =
     let more = and_parts _ _ (and_parts _ _ t).1 in
     ((ltb-true _ _ (and_parts _ _ t).0, own.to _ more.0), ltb-true _ _ more.1)
 
-number_read : (w : List ℕ) (n : ℕ) → Writes w × (n ≡ digits_value 10 (without_leading_plus w)) → Ok n ≡ decimal w
+pub number_read : (w : List ℕ) (n : ℕ) → Writes w × (n ≡ digits_value 10 (without_leading_plus w)) → Ok n ≡ decimal w
 number_read w n h = ap Ok h.1 ∙ sym (cond-false _ _ _ (not_from_true _ (tested w h.0)))
 
-number_refused : (w : List ℕ) → (Writes w → ⊥) → Err Number ≡ decimal w
+pub number_refused : (w : List ℕ) → (Writes w → ⊥) → Err Number ≡ decimal w
 number_refused w h = sym (cond-true _ _ _ (not_from_false _ (false_from_ne_true _ (λ t. h (told w t)))))
 
 -- what is read of a word, with the one error that a script has for it
