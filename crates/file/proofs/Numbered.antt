@@ -1,10 +1,7 @@
 -- The records of a file that is as long as its count says, one after another. Assumes nothing.
-use Rattle.std.proofs.Common.{◌≡◌, ℕ, zero, suc, ◌+◌, ◌-◌, ◌*◌, ◌<◌, ◌≤◌, List, ◌∷◌, length, get_or, take, min, Some, None, Option, refl, ap, ◌∙◌, mul-le-mul_right, suc-mul, arith}
+use Rattle.std.proofs.Common.{◌≡◌, ℕ, zero, suc, ◌+◌, ◌-◌, ◌*◌, ◌<◌, ◌≤◌, List, ◌∷◌, length, get_or, Some, None, Option, refl, ap, ◌∙◌, mul-le-mul_right, suc-mul, arith}
 use Rattle.std.specs.Iterator.{YieldsFirstBy, Yields}
-use Rattle.std.specs.Iterator.Adapters.{take_source, take_count, take_steps}
-use Rattle.std.specs.declared.iter.Take.{Take}
-use Rattle.std.proofs.lemmas.List.{length-take, get_or-take}
-use Rattle.std.proofs.lemmas.Iterator.{YieldsList, YieldsList-from_take}
+use Rattle.std.proofs.lemmas.Iterator.{YieldsList}
 use Rattle.std.proofs.lemmas.Iterator.Consumers.{YieldsList-from_first, YieldsList-at, YieldsList-turn, YieldsList-end}
 use Rattle.file.specs.declared.header.Header.{Header}
 use Rattle.file.specs.declared.records.SavedRecord.{SavedRecord}
@@ -41,11 +38,13 @@ abbrev pub view : ℕ × SavedRecord → ℕ × Parts
 view r = (r.0, parts_seen r.1)
 
 abbrev pub rest : Records → List (ℕ × Parts)
-rest s = numbered s.file.width s.file.bytes.now s.given (s.file.header.count - s.given)
+rest s = numbered s.file.width s.file.bytes.now s.given (s.last - s.given)
 
--- what a `for` over the records of a file is given
-pub records_give : (file : SavedFile) (s : Records) → s.file ≡ file → s.given ≡ 0 → YieldsList (YieldsFirstBy view rest) view s (numbered file.width file.bytes.now 0 file.header.count)
-records_give file s e z = YieldsList-from_first view rest _ (ap (λ g. numbered s.file.width s.file.bytes.now g (s.file.header.count - g)) z ∙ ap (numbered s.file.width s.file.bytes.now 0) (omega arith) ∙ ap (λ f. numbered f.width f.bytes.now 0 f.header.count) e)
+-- what a `for` over the first m records of a file is given
+pub records_give : (file : SavedFile) (m : ℕ) (s : Records) → s.file ≡ file → s.given ≡ 0 → s.last ≡ m → YieldsList (YieldsFirstBy view rest) view s (numbered file.width file.bytes.now 0 m)
+records_give file m s e z l =
+    let many : s.last - s.given ≡ m = omega (arith, z, l) in
+    YieldsList-from_first view rest _ (ap (numbered s.file.width s.file.bytes.now s.given) many ∙ ap (λ g. numbered s.file.width s.file.bytes.now g m) z ∙ ap (λ f. numbered f.width f.bytes.now 0 m) e)
 
 -- turn k of a `for` over them, from 0
 pub turn_numbered : (w count k : ℕ) (f : List ℕ) (x : ℕ × Parts) → (k < length (numbered w f 0 count)) × (x ≡ get_or (numbered w f 0 count) k x) → (k < count) × (x.0 ≡ k + 1) × (x.1 ≡ parts_of (record_bytes w f (k + 1)))
@@ -55,25 +54,14 @@ turn_numbered w count k f x h =
     let e : 0 + k + 1 ≡ k + 1 = omega arith in
     (low, ap (λ x. x.0) same ∙ e, ap (λ x. x.1) same ∙ ap (λ j. parts_of (record_bytes w f j)) e)
 
--- the same over the first m of them
-module _ (file : SavedFile) (m : ℕ) (s : Records) (u v : Take Records) (first : s.file ≡ file) (none : s.given ≡ 0) (source : take_source u ≡ s) (limit : take_count u ≡ m) (begun : v ≡ u) where
-  abbrev all : List (ℕ × Parts)
-  all = numbered file.width file.bytes.now 0 file.header.count
+-- a `for` over the first m records
+module _ (file : SavedFile) (m : ℕ) (s v : Records) (first : s.file ≡ file) (none : s.given ≡ 0) (limit : s.last ≡ m) (begun : v ≡ s) where
+  road : YieldsList (YieldsFirstBy view rest) view v (numbered file.width file.bytes.now 0 m)
+  road = YieldsList-at begun (records_give file m s first none limit)
 
-  abbrev steps : Take Records → Option (ℕ × SavedRecord) → Take Records → Type 0
-  steps = take_steps (YieldsFirstBy view rest)
+  module _ (xs : List (ℕ × SavedRecord)) (t : Records) (so_far : Yields (YieldsFirstBy view rest) v xs t) (r : Option (ℕ × SavedRecord)) (w : Records) where
+    pub turn_taken : (x : ℕ × SavedRecord) → r ≡ Some x → YieldsFirstBy view rest t r w → (length xs < m) × (x.0 ≡ length xs + 1) × (parts_seen x.1 ≡ parts_of (record_bytes file.width file.bytes.now (length xs + 1)))
+    turn_taken x is step = turn_numbered file.width m (length xs) file.bytes.now (view x) (YieldsList-turn road xs t so_far r w x is step)
 
-  road : YieldsList steps view v (take m all)
-  road = YieldsList-at begun (YieldsList-from_take m (YieldsList-at source (records_give file s first none)) limit)
-
-  module _ (xs : List (ℕ × SavedRecord)) (t : Take Records) (so_far : Yields steps v xs t) (r : Option (ℕ × SavedRecord)) (w : Take Records) where
-    pub turn_taken : (x : ℕ × SavedRecord) → r ≡ Some x → steps t r w → (length xs < min m file.header.count) × (x.0 ≡ length xs + 1) × (parts_seen x.1 ≡ parts_of (record_bytes file.width file.bytes.now (length xs + 1)))
-    turn_taken x is step =
-        let h = YieldsList-turn road xs t so_far r w x is step in
-        let low : length xs < m = omega (arith, h.0, length-take m all) in
-        let there : length xs < length all = omega (arith, h.0, length-take m all) in
-        let e = turn_numbered file.width file.header.count (length xs) file.bytes.now (view x) (there, h.1 ∙ get_or-take m all (length xs) (view x) low) in
-        (omega (arith, e.0), e.1, e.2)
-
-    pub end_taken : r ≡ None → steps t r w → length xs ≡ min m file.header.count
-    end_taken is step = (YieldsList-end road xs t so_far r w is step).1 ∙ length-take m all ∙ ap (min m) (length_numbered file.width 0 file.header.count file.bytes.now)
+    pub end_taken : r ≡ None → YieldsFirstBy view rest t r w → length xs ≡ m
+    end_taken is step = (YieldsList-end road xs t so_far r w is step).1 ∙ length_numbered file.width 0 m file.bytes.now

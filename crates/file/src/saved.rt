@@ -1,5 +1,5 @@
 // A file whose header was accepted.
-ghost use Rattle.std.specs.Prelude.{◌≡◌, ◌+◌, ◌-◌, ◌*◌, ◌≤◌, length, IfOk};
+ghost use Rattle.std.specs.Prelude.{◌≡◌, ◌+◌, ◌-◌, ◌*◌, ◌≤◌, length, min, IfOk};
 ghost use Rattle.std.specs.Iterator.{YieldsFirstBy, item_count};
 ghost use Rattle.std.specs.Result.{result_map_both};
 ghost use Rattle.file.specs.Header.{after_letter, header_of, any_header, width_at, Fits};
@@ -105,32 +105,45 @@ impl<'a> SavedFile<'a> {
     pub fn records(&self) -> Records<'a>
         ensures file { result.file ≡ self.now }
         ensures given { result.given ≡ 0 }
+        ensures last { result.last ≡ self.now.header.count }
+    {
+        self.records_to(self.header.count)
+    }
+
+    // The first `n` records in order, or all where there are fewer. Not `records().take(n)`, which counts each record twice.
+    pub fn records_to(&self, n: u32) -> Records<'a>
+        ensures file { result.file ≡ self.now }
+        ensures given { result.given ≡ 0 }
+        ensures last { result.last ≡ min n self.now.header.count }
     {
         Records {
             file: *self,
             given: 0,
+            last: n.min(self.header.count),
         }
     }
 }
 
-// The records of a file that have not been given.
+// The records of a file that have not been given, up to record `last`.
 #[derive(Clone, Copy, Debug)]
 pub struct Records<'a> {
     file: SavedFile<'a>,
     given: u32,
-    ghost within: { given ≤ file.header.count },
+    last: u32,
+    ghost within: { given ≤ last },
+    ghost there: { last ≤ file.header.count },
 }
 
 impl<'a> Iterator for Records<'a> {
     type Item = (u32, SavedRecord<'a>);
 
-    ghost next_gives = { YieldsFirstBy (λ r. (r.0, parts_seen r.1)) (λ s. numbered s.file.width s.file.bytes.now s.given (s.file.header.count - s.given)) };
+    ghost next_gives = { YieldsFirstBy (λ r. (r.0, parts_seen r.1)) (λ s. numbered s.file.width s.file.bytes.now s.given (s.last - s.given)) };
 
-    ghost remaining = { item_count (λ s. numbered s.file.width s.file.bytes.now s.given (s.file.header.count - s.given)) };
+    ghost remaining = { item_count (λ s. numbered s.file.width s.file.bytes.now s.given (s.last - s.given)) };
 
     #[tactic(auto, using(crate::proofs::Numbered::numbered_more))]
     fn next(&mut self) -> Option<(u32, SavedRecord<'a>)> {
-        if self.given == self.file.header.count {
+        if self.given == self.last {
             return None;
         }
         let number = self.given + 1;

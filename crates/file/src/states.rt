@@ -42,7 +42,7 @@ fn replayed<K: Kind>(file: SavedFile<'_>, cell: u32, moment: u32) -> Result<K::S
     let cells = file.header.cells;
     let mut state = K::origin();
     let mut last = 0;
-    for (n, saved) in file.records().take(moment as usize) {
+    for (n, saved) in file.records_to(moment) {
         if let Some(change) = change_for::<K>(saved, cells, cell, n, last)? {
             state = K::act(&change, &state);
             last = n;

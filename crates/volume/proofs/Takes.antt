@@ -99,10 +99,10 @@ module _ {PS PC : Type 0} (K : Model PS PC) where
         ap (λ b. took_to K f b n) (sym blank) ∙ t ∙ ap Ok (sym (reached_is b n _ t) ∙ sym after)
 
   -- a `for` over the records of a file of this kind: the one that is given is the next to be taken in, and after the last all are
-  module _ (file : SavedFile) (of_kind : file.width ≡ K.width) (s v : Records) (first : s.file ≡ file) (none : s.given ≡ 0) (begun : v ≡ s)
+  module _ (file : SavedFile) (of_kind : file.width ≡ K.width) (s v : Records) (first : s.file ≡ file) (none : s.given ≡ 0) (limit : s.last ≡ file.header.count) (begun : v ≡ s)
       (xs : List (ℕ × SavedRecord)) (t : Records) (so_far : Yields (YieldsFirstBy view rest) v xs t) (r : Option (ℕ × SavedRecord)) (u : Records) where
     road : YieldsList (YieldsFirstBy view rest) view v (numbered file.width file.bytes.now 0 file.header.count)
-    road = YieldsList-at begun (records_give file s first none)
+    road = YieldsList-at begun (records_give file file.header.count s first none limit)
 
     pub given_turn : (x : ℕ × SavedRecord) → r ≡ Some x → YieldsFirstBy view rest t r u → (length xs < file.header.count) × ((w : Memory PS PC) → took_parts K w x.0 (parts_seen x.1) ≡ took K file.bytes.now w (length xs + 1))
     given_turn x is step =
