@@ -1,5 +1,5 @@
 // A record of the log, and where it lies.
-ghost use Rattle.std.specs.Prelude.{◌≡◌};
+ghost use Rattle.std.specs.Prelude.{◌≡◌, take};
 ghost use Rattle.journal.specs.Links.{place_of};
 
 // One change of one cell, with changes of type C. Records are numbered from 1 in the order of writing.
@@ -19,11 +19,18 @@ pub struct Record<C> {
     pub fold: C,
 }
 
-// The place of record `number` in the log: records lie in the order of their numbers, from the first place on.
+// The place of record `number` in the log. The only rule of where a record lies.
 pub fn place_of(number: usize) -> usize
     ensures { result ≡ place_of number }
 {
     number.saturating_sub(1)
+}
+
+// Records 1 to `count` in order, or all where there are fewer: those before the place of the next one.
+pub fn first_records<C>(records: &[Record<C>], count: u32) -> &[Record<C>]
+    ensures { result.now ≡ take count records.now }
+{
+    &records[..place_of(count as usize + 1).min(records.len())]
 }
 
 // The cell that a record belongs to. In this crate and in `volume` nothing else reads the field.

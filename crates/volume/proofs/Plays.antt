@@ -13,13 +13,13 @@ use Rattle.volume.specs.Replays.{cell_known, played, played_to}
 
 module _ {PS PC : Type 0} (K : Model PS PC) (rs : List (Record PC)) (i : ℕ) where
   -- a walk along the first `moment` records is at record i + 1
-  pub item_at : (moment : ℕ) (r : Record PC) → moment ≤ length rs → i < length (take moment rs) → r ≡ get_or (take moment rs) i r → r ≡ numbered K rs (i + 1)
-  item_at moment r l h e =
-      let long = length-take-le moment rs l in
+  pub item_at : (moment : ℕ) (walked : List (Record PC)) (r : Record PC) → walked ≡ take moment rs → moment ≤ length rs → i < length walked → r ≡ get_or walked i r → r ≡ numbered K rs (i + 1)
+  item_at moment walked r same l h e =
+      let long : length walked ≡ moment = ap length same ∙ length-take-le moment rs l in
       let low : i < moment = omega arith in
       let there : i < length rs = omega arith in
       let place : i ≡ place_of (i + 1) = omega arith in
-      e ∙ get_or-take moment rs i r low ∙ get_or_default rs i r (blank K) there ∙ ap (λ k. get_or rs k (blank K)) place
+      e ∙ ap (λ xs. get_or xs i r) same ∙ get_or-take moment rs i r low ∙ get_or_default rs i r (blank K) there ∙ ap (λ k. get_or rs k (blank K)) place
 
   -- .. is of no cell, or of one: r is that record
   module _ (cells : ℕ) (r : Record PC) (before : each_below (cell_known K cells rs) i ≡ Ok tt) (is : r ≡ numbered K rs (i + 1)) where

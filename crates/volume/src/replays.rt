@@ -8,7 +8,7 @@ use crate::Volume;
 use crate::parts::fill_with;
 use crate::refusal::Refusal;
 use journal::faults::LadderFault;
-use journal::record::{Record, cell_of};
+use journal::record::{Record, cell_of, first_records};
 use kind::Kind;
 
 // Tries records 1 to `moment`; the lowest that is of no cell is the fault.
@@ -20,7 +20,7 @@ pub(crate) fn try_records<K: Kind>(
     requires { moment ≤ length records.now }
     ensures { result ≡ each_below (cell_known K.Kind.model cells records.now) moment }
 {
-    for (i, r) in records[..moment as usize].iter().enumerate() {
+    for (i, r) in first_records(records, moment).iter().enumerate() {
         if cell_of(r) as usize >= cells {
             return Err(LadderFault::Cell {
                 record: i as u32 + 1,
@@ -45,7 +45,7 @@ fn play_records<K: Kind>(image: &mut [K::State], records: &[Record<K::Change>], 
     ensures { image.new ≡ played_to K.Kind.model (length image.old) records.now moment }
 {
     fill_with(image, K::origin());
-    for r in &records[..moment as usize] {
+    for r in first_records(records, moment) {
         play_record::<K>(image, r);
     }
 }

@@ -12,7 +12,7 @@ use crate::refusal::Refusal;
 use crate::replays::try_records;
 use file::forms::{write_header, write_record_at};
 use file::records::file_length;
-use journal::record::{Record, cell_of};
+use journal::record::{Record, cell_of, first_records};
 use kind::Kind;
 
 // Writes one record to its place as record `n` of the file.
@@ -31,7 +31,7 @@ fn put_file<K: Kind>(cells: u16, records: &[Record<K::Change>], count: u32, area
     ensures { area.new ≡ written K.Kind.model cells count (lines_of K.Kind.model records.now count) area.old }
 {
     let _ = write_header(K::LETTER, cells, count, area);
-    for (i, r) in records[..count as usize].iter().enumerate() {
+    for (i, r) in first_records(records, count).iter().enumerate() {
         put_record::<K>(r, i as u32 + 1, area);
     }
 }
