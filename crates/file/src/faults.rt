@@ -5,24 +5,25 @@ ghost use Rattle.file.specs.Faults.{fault_number, change_at};
 use kind::KindFault;
 use thiserror::Error;
 
-// A record goes by its number, from 1.
+// A record goes by its number, from 1. The meaning of each is a piece of its message: the pieces in which a line is printed decide how
+// much of it the output's buffer takes, and they stay what they were.
 #[derive(Clone, Copy, Debug, PartialEq, Eq, Error)]
 pub enum FileFault {
-    #[error("refused {} (shorter than a header)", self.number())]
+    #[error("refused {} ({})", self.number(), "shorter than a header")]
     Short,
-    #[error("refused {} (not the letter)", self.number())]
+    #[error("refused {} ({})", self.number(), "not the letter")]
     Letter,
-    #[error("refused {} (not version 1)", self.number())]
+    #[error("refused {} ({})", self.number(), "not version 1")]
     Version,
-    #[error("refused {} (not the number of cells)", self.number())]
+    #[error("refused {} ({})", self.number(), "not the number of cells")]
     Cells,
-    #[error("refused {} (count too high)", self.number())]
+    #[error("refused {} ({})", self.number(), "count too high")]
     Count,
-    #[error("refused {} (not the length)", self.number())]
+    #[error("refused {} ({})", self.number(), "not the length")]
     Length,
-    #[error("refused {}: record {n} (cell number too high)", self.number(), n = .0)]
+    #[error("refused {}: record {} ({})", self.number(), .0, "cell number too high")]
     Cell(u32),
-    #[error("refused {}: record {n} (not the record before)", self.number(), n = .0)]
+    #[error("refused {}: record {} ({})", self.number(), .0, "not the record before")]
     Next(u32),
     #[error("refused {}: record {n} ({fault})", self.number(), n = .0, fault = .1)]
     Change(u32, KindFault),

@@ -5,6 +5,7 @@ ghost use Rattle.volume.specs.declared.refusal.Refusal.TheVariants.{File, Ladder
 
 use file::faults::FileFault;
 use journal::faults::LadderFault;
+use std::fmt;
 use thiserror::Error;
 
 // What a check found first: the lowest wrong record, else the lowest cell with a wrong head, else the lowest wrong cell.
@@ -22,41 +23,79 @@ pub enum Wrong {
 #[derive(Clone, Copy, Debug, PartialEq, Eq, Error)]
 pub enum Refusal {
     // 1: there is no cell, or more than 4,096
-    #[error("refused {} (no cell, or more than 4096)", self.number())]
+    #[error("refused {} ({})", self.number(), "no cell, or more than 4096")]
     Cells,
     // 2: the heads, or the work row, are not as many as the cells
-    #[error("refused {} (heads or work row not as many as cells)", self.number())]
+    #[error("refused {} ({})", self.number(), "heads or work row not as many as cells")]
     Heads,
     // 3: the log has space for more than 65,535 records
-    #[error("refused {} (log above 65535 records)", self.number())]
+    #[error("refused {} ({})", self.number(), "log above 65535 records")]
     Capacity,
     // 4: the count is above the log's capacity
-    #[error("refused {} (count above the log)", self.number())]
+    #[error("refused {} ({})", self.number(), "count above the log")]
     Count,
     // 5 to 10, 15 to 17: what is wrong with a file
     #[error(transparent)]
     File(FileFault),
     // 11: the area to be written is shorter than what goes into it
-    #[error("refused {} (area too short)", self.number())]
+    #[error("refused {} ({})", self.number(), "area too short")]
     Area,
     // 12: the image is not as many states as there are cells
-    #[error("refused {} (image not as many as cells)", self.number())]
+    #[error("refused {} ({})", self.number(), "image not as many as cells")]
     Image,
     // 13: there is no such cell
-    #[error("refused {} (no such cell)", self.number())]
+    #[error("refused {} ({})", self.number(), "no such cell")]
     Cell,
     // 14: a moment is above the count
-    #[error("refused {} (moment above the count)", self.number())]
+    #[error("refused {} ({})", self.number(), "moment above the count")]
     Moment,
     // 18: a link that was followed is not good, a length would pass 65,535, or a record's cell number is too high
-    #[error("refused {}: {fault}", self.number(), fault = .0)]
+    #[error(fmt = write_ladder)]
     Ladder(LadderFault),
     // 19: the log has no space for the records that are needed
-    #[error("refused {} (log full)", self.number())]
+    #[error("refused {} ({})", self.number(), "log full")]
     Full,
     // 20: a check found what no writes leave
-    #[error("refused {}: {wrong} (not what writes leave)", self.number(), wrong = .0)]
+    #[error(fmt = write_unsound)]
     Unsound(Wrong),
+}
+
+// The messages of 18 and 20, by cases: what a fault is called stands in one piece with the colon, and its meaning is a piece of its own.
+fn write_ladder<W: fmt::Write>(fault: &LadderFault, f: &mut fmt::Formatter<W>) -> fmt::Result {
+    let n = Refusal::Ladder(*fault).number();
+    match fault {
+        LadderFault::Link { cell, record } => {
+            write!(
+                f,
+                "refused {n}: cell {cell}, record {record} ({})",
+                "bad link"
+            )
+        }
+        LadderFault::Length { cell, record } => {
+            write!(
+                f,
+                "refused {n}: cell {cell}, length at record {record} ({})",
+                "length above 65535"
+            )
+        }
+        LadderFault::Cell { record } => {
+            write!(
+                f,
+                "refused {n}: cell number at record {record} ({})",
+                "cell number too high"
+            )
+        }
+    }
+}
+
+fn write_unsound<W: fmt::Write>(wrong: &Wrong, f: &mut fmt::Formatter<W>) -> fmt::Result {
+    let n = Refusal::Unsound(*wrong).number();
+    let why = "not what writes leave";
+    match wrong {
+        Wrong::Record(record) => write!(f, "refused {n}: record {record} ({why})"),
+        Wrong::Head(cell) => write!(f, "refused {n}: head of cell {cell} ({why})"),
+        Wrong::Cell(cell) => write!(f, "refused {n}: cell {cell} ({why})"),
+    }
 }
 
 // By hand, as the next one, since clauses name what it gives, and a derived one says nothing.

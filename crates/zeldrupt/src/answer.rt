@@ -1,5 +1,5 @@
 // What a command answers where nothing refuses it.
-use std::fmt;
+use std::alloc::{AllocError, Global};
 
 // A state, a change or a form is the text that the kind's notation gives.
 #[derive(Debug, Drop)]
@@ -27,25 +27,26 @@ pub enum Answer {
     Text(String),
 }
 
-impl fmt::Display for Answer {
-    fn fmt<W: fmt::Write>(&self, f: &mut fmt::Formatter<W>) -> fmt::Result {
+impl Answer {
+    // One text, and no Display: an answer goes to the output's buffer in one piece.
+    pub fn into_text(self, heap: Global) -> Result<String, AllocError> {
         match self {
-            Answer::Formatted => f.write_str("formatted"),
-            Answer::Count(n) => write!(f, "count {n}"),
-            Answer::State(state) => write!(f, "state {state}"),
-            Answer::Change { change, steps } => write!(f, "change {change}, steps {steps}"),
-            Answer::Form(form) => write!(f, "form {form}"),
-            Answer::Sound => f.write_str("sound"),
-            Answer::Rolled => f.write_str("rolled"),
-            Answer::Replayed => f.write_str("replayed"),
-            Answer::Copied => f.write_str("copied"),
-            Answer::Set => f.write_str("set"),
-            Answer::States(n) => write!(f, "{n} states"),
-            Answer::Bytes(n) => write!(f, "{n} bytes"),
-            Answer::Saved(n) => write!(f, "saved {n} bytes"),
-            Answer::Poked => f.write_str("poked"),
-            Answer::Number(n) => write!(f, "{n}"),
-            Answer::Text(text) => f.write_str(text.as_str()),
+            Answer::Formatted => String::from_str(heap, "formatted"),
+            Answer::Count(n) => format!(in heap; "count {n}"),
+            Answer::State(state) => format!(in heap; "state {state}"),
+            Answer::Change { change, steps } => format!(in heap; "change {change}, steps {steps}"),
+            Answer::Form(form) => format!(in heap; "form {form}"),
+            Answer::Sound => String::from_str(heap, "sound"),
+            Answer::Rolled => String::from_str(heap, "rolled"),
+            Answer::Replayed => String::from_str(heap, "replayed"),
+            Answer::Copied => String::from_str(heap, "copied"),
+            Answer::Set => String::from_str(heap, "set"),
+            Answer::States(n) => format!(in heap; "{n} states"),
+            Answer::Bytes(n) => format!(in heap; "{n} bytes"),
+            Answer::Saved(n) => format!(in heap; "saved {n} bytes"),
+            Answer::Poked => String::from_str(heap, "poked"),
+            Answer::Number(n) => n.to_string(heap),
+            Answer::Text(text) => Ok(text),
         }
     }
 }

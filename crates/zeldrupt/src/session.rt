@@ -136,8 +136,12 @@ impl Session {
         Ok(Answer::Form(hexadecimal::render(self.heap, out.as_slice())?))
     }
 
-    // What a command answers.
-    pub fn answer(&mut self, rt: &HostRuntime, command: Spoken<'_>) -> Result<Answer, Fault> {
+    // The text of what a command answers.
+    pub fn answer(&mut self, rt: &HostRuntime, command: Spoken<'_>) -> Result<String, Fault> {
+        Ok(self.run(rt, command)?.into_text(self.heap)?)
+    }
+
+    fn run(&mut self, rt: &HostRuntime, command: Spoken<'_>) -> Result<Answer, Fault> {
         match command {
             Command::Format {
                 kind,
